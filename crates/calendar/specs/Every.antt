@@ -1,0 +1,40 @@
+-- Tests that are computed once over a whole list, and what each says of every entry: by them a fact about 1,200 entries is one evaluation.
+-- They serve the calendar of document 01, Timestamps, and speak of lists of numbers only. Assumes nothing.
+use mathlib.Core.Path.{_≡_, _∙_, ap, sym}
+use mathlib.Core.Bool.{Bool, true, false, _&&_}
+use mathlib.Core.List.{List, [], _∷_}
+use Prim.Native.Nat.{ℕ, zero, suc, _+_, _<_, _≤_, zero-le}
+use native.Mathlib.Nat.{add-zero, add-suc, suc-add, le-of-suc-le-suc, not-suc-le-zero}
+use lib.Dec.{T, eqb, leb, eqb→eq, leb→le}
+use lib.ListN.{length, getD}
+
+and-left : (a b : Bool) → T (a && b) → T a
+and-left true b t = tt
+and-left false b t = t
+
+and-right : (a b : Bool) → T (a && b) → T b
+and-right true b t = t
+and-right false b t = absurd t
+
+-- each entry is at most b
+abbrev pub within : ℕ → List ℕ → Bool
+within b [] = true
+within b (x ∷ xs) = leb x b && within b xs
+
+pub within-at : (b : ℕ) (xs : List ℕ) → T (within b xs) → (k : ℕ) → getD xs k 0 ≤ b
+within-at b [] t k = zero-le
+within-at b (x ∷ xs) t zero = leb→le x b (and-left (leb x b) (within b xs) t)
+within-at b (x ∷ xs) t (suc k) = within-at b xs (and-right (leb x b) (within b xs) t) k
+
+-- each entry is the one before it and the step at that one's place, which are counted from i; x stands before the list
+abbrev pub steps : (ℕ → ℕ) → ℕ → ℕ → List ℕ → Bool
+steps f i x [] = true
+steps f i x (y ∷ ys) = eqb y (x + f i) && steps f (suc i) y ys
+
+pub step-at : (f : ℕ → ℕ) (ys : List ℕ) (i x : ℕ) → T (steps f i x ys) → (k : ℕ) → k < length ys → getD ys k 0 ≡ getD (x ∷ ys) k 0 + f (i + k)
+step-at f [] i x t k h = absurd (not-suc-le-zero h)
+step-at f (y ∷ ys) i x t zero h =
+    eqb→eq y (x + f i) (and-left (eqb y (x + f i)) (steps f (suc i) y ys) t) ∙ ap (λ (m : ℕ). x + f m) (sym (add-zero i))
+step-at f (y ∷ ys) i x t (suc k) h =
+    step-at f ys (suc i) y (and-right (eqb y (x + f i)) (steps f (suc i) y ys) t) k (le-of-suc-le-suc h)
+    ∙ ap (λ (m : ℕ). getD (y ∷ ys) k 0 + f m) (suc-add i k ∙ sym (add-suc i k))

@@ -1,0 +1,4 @@
+pub mod Every
+pub mod Calendar
+pub mod FirstDay
+pub mod Bound

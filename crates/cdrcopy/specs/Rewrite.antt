@@ -1,0 +1,81 @@
+-- A file read and written again: what the reader hands back goes to the writer, and a refusal of the reader leaves the output
+-- unchanged. Both are public calls of document 01 (Reader); this only joins them. Assumes nothing.
+use mathlib.Core.Path.{_≡_, refl, sym, ap, _∙_}
+use mathlib.Core.Bool.{not}
+use mathlib.Core.List.{List, [], _∷_}
+use Prim.Native.Nat.{ℕ, zero, suc, _≤_}
+use native.Mathlib.Omega.{arith}
+use lib.Dec.{eqb, ltb}
+use lib.ListN.{length}
+use borrow.Author.Tests.{ltb-false}
+use Rattle.refusals.specs.Refusal.{Rule, _when_, first, passed}
+use Rattle.record.specs.Walk.{tallyOf}
+use Rattle.cdrfile.specs.declared.Header.{Header}
+use Rattle.cdrfile.specs.File.{wrongOrder}
+use Rattle.reader.specs.declared.Contents.{Contents}
+use Rattle.reader.specs.Reader.{readOf, partOf}
+use Rattle.writer.specs.Writer.{After, after, beyondWidth, wrongValue, neededOctets, verdict, written, settled, writeOf}
+
+-- the writer, over what the reader hands back of a file
+abbrev pub handedOn : Contents → List ℕ → List ℕ → After
+handedOn c file output = writeOf (c .header) (partOf file (c .filter)) (partOf file (c .private)) (partOf file (c .records)) output
+
+abbrev rewritten : ℕ → Contents → List ℕ → List ℕ → After
+rewritten zero c file output = handedOn c file output
+rewritten (suc n) c file output = after (record { refusal = suc n; octets = 0 }) output
+
+unfoldable pub rewriteOf : List ℕ → List ℕ → After
+rewriteOf file output = rewritten (readOf file .refusal) (readOf file) file output
+
+-- a file that was written fits the output
+module _ (h : Header) (filter private records output : List ℕ) where
+  room : verdict h filter private records output ≡ 0 → neededOctets h filter private records ≤ length output
+  unfolding verdict
+  room e =
+      let n = neededOctets h filter private records in
+      let r17 : List Rule = (17 when ltb (length output) n) ∷ [] in
+      let r8 : List Rule = (8 when ltb 1048576 n) ∷ r17 in
+      let r13 : List Rule = (13 when wrongOrder (h .high) (h .low) (tallyOf records)) ∷ r8 in
+      let r11 : List Rule = (11 when not (eqb (tallyOf records .refusal) 0)) ∷ r13 in
+      let r10 : List Rule = (10 when wrongValue h filter private) ∷ r11 in
+      let p2 = passed 1 (beyondWidth h) r10 e in
+      let p10 = passed 9 (wrongValue h filter private) r11 (p2 .1) in
+      let p11 = passed 10 (not (eqb (tallyOf records .refusal) 0)) r13 (p10 .1) in
+      let p13 = passed 12 (wrongOrder (h .high) (h .low) (tallyOf records)) r8 (p11 .1) in
+      let p8 = passed 7 (ltb 1048576 n) r17 (p13 .1) in
+      let p17 = passed 16 (ltb (length output) n) [] (p8 .1) in
+      ltb-false (length output) n (p17 .0)
+
+  by-verdict : (n : ℕ) → verdict h filter private records output ≡ n
+      → settled n (neededOctets h filter private records) output (written h filter private records output) .answer .refusal ≡ 0
+      → settled n (neededOctets h filter private records) output (written h filter private records output) .answer .octets ≤ length output
+  by-verdict zero v e = room v
+  by-verdict (suc n) v e = let z : ⊥ = omega arith in absurd z
+
+  write-fits : writeOf h filter private records output .answer .refusal ≡ 0 → writeOf h filter private records output .answer .octets ≤ length output
+  unfolding writeOf
+  write-fits e = by-verdict (verdict h filter private records output) refl e
+
+module _ (file output : List ℕ) where
+  by-refusal : (n : ℕ) → rewritten n (readOf file) file output .answer .refusal ≡ 0 → rewritten n (readOf file) file output .answer .octets ≤ length output
+  by-refusal zero e =
+      let c = readOf file in
+      write-fits (c .header) (partOf file (c .filter)) (partOf file (c .private)) (partOf file (c .records)) output e
+  by-refusal (suc n) e = let z : ⊥ = omega arith in absurd z
+
+  pub rewrite-fits : rewriteOf file output .answer .refusal ≡ 0 → rewriteOf file output .answer .octets ≤ length output
+  unfolding rewriteOf
+  rewrite-fits e = by-refusal (readOf file .refusal) e
+
+  -- the two ways through
+  refused-by : (n : ℕ) → (n ≡ 0 → ⊥) → after (record { refusal = n; octets = 0 }) output ≡ rewritten n (readOf file) file output
+  refused-by zero h = absurd (h refl)
+  refused-by (suc n) h = refl
+
+  pub rewrite-refused : (readOf file .refusal ≡ 0 → ⊥) → after (record { refusal = readOf file .refusal; octets = 0 }) output ≡ rewriteOf file output
+  unfolding rewriteOf
+  rewrite-refused h = refused-by (readOf file .refusal) h
+
+  pub rewrite-accepted : readOf file .refusal ≡ 0 → handedOn (readOf file) file output ≡ rewriteOf file output
+  unfolding rewriteOf
+  rewrite-accepted h = sym (ap (λ (n : ℕ). rewritten n (readOf file) file output) h)

@@ -1,0 +1,4 @@
+pub mod File
+pub mod Laws
+pub mod Needs
+pub mod Ordered

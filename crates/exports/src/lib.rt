@@ -1,0 +1,66 @@
+// The public calls for programs in other languages, under C's calling convention: tests and benchmarks link them.
+use cdrfile::Header;
+use reader::Contents;
+use reader::Part;
+use record::Stepped;
+use timestamp::Stamped;
+use writer::Written;
+ghost use mathlib.Core.Path.{_≡_};
+ghost use Rattle.record.specs.Step.{stepAt};
+ghost use Rattle.reader.specs.Reader.{readOf};
+ghost use Rattle.timestamp.specs.Stamp.{stampOf};
+ghost use Rattle.writer.specs.Writer.{after, writeOf};
+ghost use Rattle.exports.specs.Place.{bodyPlace};
+
+#[no_mangle]
+pub extern "C" fn cdr_read(file: &[u8]) -> Contents
+    ensures { λ r. ⌜ r ≡ readOf (now (file .entry)) ⌝ }
+{
+    reader::read(file)
+}
+
+#[no_mangle]
+pub extern "C" fn cdr_step_at(file: &[u8], at: usize) -> Stepped
+    ensures { λ r. ⌜ r ≡ stepAt (now (file .entry)) at ⌝ }
+{
+    record::step_at(file, at)
+}
+
+#[no_mangle]
+pub extern "C" fn cdr_write(
+    header: Header,
+    filter: &[u8],
+    private: &[u8],
+    records: &[u8],
+    output: &mut [u8],
+) -> Written
+    ensures { λ r. ⌜ after r (now (output .exit)) ≡ writeOf header (now (filter .entry)) (now (private .entry)) (now (records .entry)) (now (output .entry)) ⌝ }
+{
+    writer::write(header, filter, private, records, output)
+}
+
+#[no_mangle]
+pub extern "C" fn cdr_stamp(minutes: u32, bias: u32) -> Stamped
+    ensures { λ r. ⌜ r ≡ stampOf minutes bias ⌝ }
+{
+    timestamp::stamp(minutes, bias)
+}
+
+// The body's place, since a part of a slice cannot cross to C.
+#[no_mangle]
+pub extern "C" fn cdr_body_at(file: &[u8], at: usize) -> Part
+    ensures { λ r. ⌜ r ≡ bodyPlace (now (file .entry)) at ⌝ }
+{
+    let s = record::step_at(file, at);
+    let body = record::body_at(file, at);
+    if s.refusal != 0 {
+        return Part {
+            start: 0,
+            octets: body.len(),
+        };
+    }
+    Part {
+        start: at + s.header,
+        octets: body.len(),
+    }
+}

@@ -1,0 +1,4 @@
+pub mod Places
+pub mod Reader
+pub mod Frame
+pub mod Parts

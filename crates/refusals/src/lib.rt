@@ -1,0 +1,1 @@
+// Refusals in order: definitions and laws alone, shared by every call that refuses.

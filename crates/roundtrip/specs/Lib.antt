@@ -1,0 +1,9 @@
+pub mod Handed
+pub mod Held
+pub mod Accepted
+pub mod Sound
+pub mod Back
+pub mod Write
+pub mod Complete
+pub mod Demand2
+pub mod Proof

@@ -1,0 +1,159 @@
+-- Demand 2 (Demand2.antt) holds: soundness (Sound, Back), completeness (Complete) and the writer's side (Write) together.
+-- Assumes nothing.
+use mathlib.Core.Path.{_≡_, refl, sym, ap, _∙_, subst}
+use mathlib.Core.Logic.{_↔_}
+use mathlib.Core.List.{List, _++_}
+use Prim.Native.Nat.{ℕ, _+_, _≤_}
+use native.Mathlib.Nat.{zero-add}
+use native.Mathlib.Omega.{arith}
+use lib.ListN.{length, take, drop}
+use Rattle.octets.specs.Number.{Octets, octets-drop}
+use Rattle.octets.specs.Splice.{splice, splice-there}
+use Rattle.record.specs.Record.{Record, recordsOctets}
+use Rattle.cdrfile.specs.declared.Header.{Header}
+use Rattle.cdrfile.specs.File.{File, layout, RightFile, Described}
+use Rattle.reader.specs.declared.Contents.{Contents}
+use Rattle.reader.specs.Places.{headerLengthAt}
+use Rattle.reader.specs.Reader.{partOf, contentsOf, verdict, readOf}
+use Rattle.writer.specs.Writer.{After, writeOf}
+use Rattle.roundtrip.specs.Handed.{handedBack}
+use Rattle.roundtrip.specs.Accepted.{Accepted, accepts, accepted}
+use Rattle.roundtrip.specs.Sound.{fileAt, body, layout-again, right-again}
+use Rattle.roundtrip.specs.Complete.{complete, handed-again}
+use Rattle.roundtrip.specs.Back.{read-number, records-back, back}
+use Rattle.roundtrip.specs.Write.{given, right-held, write-number, Taken, taken, body-is, layout-given, given-right, write-given, taken-right}
+use Rattle.roundtrip.specs.Demand2.{Call, Plain, Accepts, fileOf, Demand2}
+
+-- Octets that the reader accepts.
+module _ {x : List ℕ} (o : Octets x) (e : readOf x .refusal ≡ 0) where
+  found : (rs : List Record) × Accepted x rs
+  found = accepted x (sym (read-number x) ∙ e)
+
+  back-read : handedBack x (readOf x) ≡ fileAt x (found .0)
+  back-read = ap (handedBack x) (accepts x (found .0) (found .1)) ∙ back (found .0) (found .1)
+
+  right-back : RightFile (handedBack x (readOf x))
+  right-back = subst RightFile (sym back-read) (right-again o (found .0) (found .1))
+
+  layout-back : layout (handedBack x (readOf x)) ≡ x
+  layout-back = ap layout back-read ∙ layout-again o (found .0) (found .1)
+
+-- Right fields and records.
+module _ (f : File) (r : RightFile f) where
+  read-right : readOf (layout f) ≡ contentsOf (layout f)
+  read-right = accepts (layout f) (f .records) (complete f r)
+
+  number-right : readOf (layout f) .refusal ≡ 0
+  number-right = ap (λ (c : Contents). c .refusal) read-right
+
+  back-right : handedBack (layout f) (readOf (layout f)) ≡ f
+  back-right = ap (handedBack (layout f)) read-right ∙ handed-again f r
+
+described : {x : List ℕ} → Octets x → (readOf x .refusal ≡ 0) ↔ Described x
+described {x} o = (
+  λ e. (handedBack x (readOf x), right-back o e, layout-back o e),
+  λ d. ap (λ (l : List ℕ). readOf l .refusal) (sym (d .2)) ∙ number-right (d .0) (d .1),
+)
+
+-- A call of the writer that was accepted.
+module _ (c : Call) (p : Plain c) (a : Accepts c) where
+  seen : (rs : List Record) × Taken (c .header) (c .filter) (c .private) (c .records) (c .output) rs
+  seen = taken (c .header) (c .filter) (c .private) (c .records) (c .output) (sym (write-number (c .header) (c .filter) (c .private) (c .records) (c .output)) ∙ a)
+
+  -- the file that was given
+  file : File
+  file = given (c .header) (c .filter) (c .private) (seen .0)
+
+  file-right : RightFile file
+  unfolding file
+  file-right = given-right (c .header) (c .filter) (c .private) (c .records) (c .output) (p .header) (p .filter) (p .private) (p .records) (seen .0) (seen .1)
+
+  file-body : recordsOctets (seen .0) ≡ c .records
+  file-body = body-is (c .header) (c .filter) (c .private) (c .records) (c .output) (p .header) (p .filter) (p .private) (p .records) (seen .0) (seen .1)
+
+  wrote : writeOf (c .header) (c .filter) (c .private) (c .records) (c .output)
+      ≡ record { answer = record { refusal = 0; octets = length (layout file) }; output = splice (c .output) 0 (layout file) }
+  unfolding file
+  wrote = write-given (c .header) (c .filter) (c .private) (c .records) (c .output) (p .header) (p .filter) (p .private) (p .records) (seen .0) (seen .1)
+
+  file-is : fileOf c ≡ layout file
+  file-is = ap (λ (w : After). take (w .answer .octets) (w .output)) wrote ∙ splice-there (c .output) 0 (layout file) (omega arith)
+
+  stays : writeOf (c .header) (c .filter) (c .private) (c .records) (c .output) .output ≡ fileOf c ++ drop (length (fileOf c)) (c .output)
+  unfolding splice
+  stays =
+      ap (λ (w : After). w .output) wrote
+      ∙ ap (λ (n : ℕ). layout file ++ drop n (c .output)) (zero-add (length (layout file)))
+      ∙ (λ i. sym file-is i ++ drop (length (sym file-is i)) (c .output))
+
+  again : handedBack (fileOf c) (readOf (fileOf c)) ≡ file
+  again = ap (λ (l : List ℕ). handedBack l (readOf l)) file-is ∙ back-right file file-right
+
+written-read : (c : Call) → Plain c → Accepts c
+    → (readOf (fileOf c) .refusal ≡ 0)
+    × (handedBack (fileOf c) (readOf (fileOf c)) .header ≡ c .header)
+    × (handedBack (fileOf c) (readOf (fileOf c)) .filter ≡ c .filter)
+    × (handedBack (fileOf c) (readOf (fileOf c)) .private ≡ c .private)
+    × (recordsOctets (handedBack (fileOf c) (readOf (fileOf c)) .records) ≡ c .records)
+unfolding file
+written-read c p a =
+    let e = again c p a in (
+      ap (λ (l : List ℕ). readOf l .refusal) (file-is c p a) ∙ number-right (file c p a) (file-right c p a),
+      ap (λ (f : File). f .header) e,
+      ap (λ (f : File). f .filter) e,
+      ap (λ (f : File). f .private) e,
+      ap (λ (f : File). recordsOctets (f .records)) e ∙ file-body c p a,
+    )
+
+apart : (c d : Call) → Plain c → Plain d → Accepts c → Accepts d → fileOf c ≡ fileOf d
+    → (c .header ≡ d .header) × (c .filter ≡ d .filter) × (c .private ≡ d .private) × (c .records ≡ d .records)
+unfolding file
+apart c d p q a b e =
+    let same : file c p a ≡ file d q b = sym (again c p a) ∙ ap (λ (l : List ℕ). handedBack l (readOf l)) e ∙ again d q b in (
+      ap (λ (f : File). f .header) same,
+      ap (λ (f : File). f .filter) same,
+      ap (λ (f : File). f .private) same,
+      sym (file-body c p a) ∙ ap (λ (f : File). recordsOctets (f .records)) same ∙ file-body d q b,
+    )
+
+-- What was read, written again.
+module _ {x : List ℕ} (o : Octets x) (e : readOf x .refusal ≡ 0) where
+  abbrev f : File
+  f = handedBack x (readOf x)
+
+  -- the records' part is the records' octets
+  part-is : partOf x (readOf x .records) ≡ recordsOctets (f .records)
+  part-is =
+      ap (λ (c : Contents). partOf x (c .records)) (accepts x (found o e .0) (found o e .1))
+      ∙ records-back (found o e .0) (found o e .1)
+      ∙ sym (body o (found o e .0) (found o e .1) .1)
+      ∙ ap (λ (g : File). recordsOctets (g .records)) (sym (back-read o e))
+
+  body-octets : Octets (recordsOctets (f .records))
+  body-octets =
+      subst Octets (sym (ap (λ (g : File). recordsOctets (g .records)) (back-read o e) ∙ body o (found o e .0) (found o e .1) .1)) (octets-drop (headerLengthAt x) o)
+
+  read-written : (output : List ℕ) → length x ≤ length output
+      → writeOf (readOf x .header) (partOf x (readOf x .filter)) (partOf x (readOf x .private)) (partOf x (readOf x .records)) output
+      ≡ record { answer = record { refusal = 0; octets = length x }; output = splice output 0 x }
+  read-written output room =
+      let r = right-back o e in
+      let l = layout-back o e in
+      let t = taken-right f r output (omega (arith, ap length l)) in
+      ap (λ (b : List ℕ). writeOf (f .header) (f .filter) (f .private) b output) part-is
+      ∙ write-given (f .header) (f .filter) (f .private) (recordsOctets (f .records)) output (right-held f r) (r .filter .1) (r .private .1) body-octets (f .records) t
+      ∙ (λ i. record { answer = record { refusal = 0; octets = length (l i) }; output = splice output 0 (l i) })
+
+pub demand-2 : Demand2
+unfolding verdict
+demand-2 =
+    record {
+      described = described;
+      handed-back = λ o e. (right-back o e, layout-back o e);
+      only-these = back-right;
+      first-refusal = read-number;
+      written-read = written-read;
+      rest-stays = stays;
+      read-written = read-written;
+      apart = apart;
+    }

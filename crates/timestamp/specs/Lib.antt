@@ -1,0 +1,4 @@
+pub mod Tests
+pub mod Timestamp
+pub mod LocalTime
+pub mod Stamp

@@ -1,0 +1,139 @@
+-- The cases of `writeOf` (Writer), one for each way out of the call, and what the tests before the layout say of the header's
+-- fields and of the file's size. Document 01, Reader, second paragraph, and Refusals. Assumes nothing.
+use mathlib.Core.Path.{_≡_, sym}
+use mathlib.Core.Bool.{Bool, true, false, cond, not, _&&_, _||_}
+use mathlib.Core.List.{List, [], _∷_, _++_}
+use Prim.Native.Nat.{ℕ, _+_, _≤_, _<_}
+use native.Mathlib.Omega.{arith}
+use lib.Dec.{leb, eqb, ltb}
+use lib.ListN.{length}
+use borrow.Author.Tests.{lt-ltb, le-ltb, ltb-false, leb-true, eq-eqb, ne-eqb, not-false}
+use Rattle.octets.specs.Number.{be}
+use Rattle.octets.specs.Splice.{splice}
+use Rattle.refusals.specs.Refusal.{or-false}
+use Rattle.timestamp.specs.Tests.{both}
+use Rattle.timestamp.specs.Timestamp.{narrow, right, narrow-bounds}
+use Rattle.record.specs.declared.Release.{Release}
+use Rattle.record.specs.Release.{narrowRelease, extensionOctets}
+use Rattle.record.specs.Walk.{tallyOf}
+use Rattle.cdrfile.specs.declared.Header.{Header}
+use Rattle.cdrfile.specs.File.{privateOctets, headerLength, fileOctets, wrongOrder}
+use Rattle.cdrfile.specs.Laws.{file-length}
+use Rattle.cdrfile.specs.Needs.{Writable, Layable}
+use Rattle.writer.specs.declared.Written.{Written}
+use Rattle.writer.specs.Writer.{after, written, beyondWidth, wrongValue, neededOctets, verdict, writeOf}
+use Rattle.writer.specs.Count.{four-each}
+
+-- the call's answer from its two numbers
+abbrev pub answered : ℕ → ℕ → Written
+answered refusal octets = record { refusal = refusal; octets = octets }
+
+-- none of 2, 10, 11 and 13 applies
+pub record Passed (h : Header) (filter private records : List ℕ) : Type 0 where
+  pub narrow : beyondWidth h ≡ false
+  pub right : wrongValue h filter private ≡ false
+  pub whole : tallyOf records .refusal ≡ 0
+  pub ordered : wrongOrder (h .high) (h .low) (tallyOf records) ≡ false
+
+module _ (h : Header) (filter private records output : List ℕ) where
+  pub write-beyond : beyondWidth h ≡ true → after (answered 2 0) output ≡ writeOf h filter private records output
+  unfolding writeOf verdict
+  write-beyond a = sym (rw a)
+
+  module _ (a : beyondWidth h ≡ false) where
+    pub write-wrong : wrongValue h filter private ≡ true → after (answered 10 0) output ≡ writeOf h filter private records output
+    unfolding writeOf verdict
+    write-wrong b = sym (rw (a, b))
+
+    module _ (b : wrongValue h filter private ≡ false) where
+      pub write-cut : (tallyOf records .refusal ≡ 0 → ⊥) → after (answered 11 0) output ≡ writeOf h filter private records output
+      unfolding writeOf verdict
+      write-cut c = sym (rw (a, b, ne-eqb _ _ c))
+
+      pub write-disordered : tallyOf records .refusal ≡ 0 → wrongOrder (h .high) (h .low) (tallyOf records) ≡ true
+          → after (answered 13 0) output ≡ writeOf h filter private records output
+      unfolding writeOf verdict
+      write-disordered c d = sym (rw (a, b, eq-eqb _ _ c, d))
+
+  module _ (p : Passed h filter private records) where
+    pub write-long : 1048576 < neededOctets h filter private records → after (answered 8 0) output ≡ writeOf h filter private records output
+    unfolding writeOf verdict
+    write-long e = sym (rw (p .narrow, p .right, eq-eqb _ _ (p .whole), p .ordered, lt-ltb _ _ e))
+
+    module _ (e : neededOctets h filter private records ≤ 1048576) where
+      pub write-needing : length output < neededOctets h filter private records
+          → after (answered 17 (neededOctets h filter private records)) output ≡ writeOf h filter private records output
+      unfolding writeOf verdict
+      write-needing f = sym (rw (p .narrow, p .right, eq-eqb _ _ (p .whole), p .ordered, le-ltb _ _ e, lt-ltb _ _ f))
+
+      pub write-done : neededOctets h filter private records ≤ length output → written h filter private records output ≡ writeOf h filter private records output
+      unfolding writeOf verdict
+      write-done f = sym (rw (p .narrow, p .right, eq-eqb _ _ (p .whole), p .ordered, le-ltb _ _ e, le-ltb _ _ f))
+
+  -- what the code puts together, from the length and the number of records that it worked out, is the answer and the file
+  pub written-made : {answer : Written} {out : List ℕ} {octets count : ℕ} → answer ≡ answered 0 octets → octets ≡ neededOctets h filter private records
+      → out ≡ splice output 0 (fileOctets h filter private records count) → count ≡ tallyOf records .count → after answer out ≡ written h filter private records output
+  written-made a b c d = cc
+
+-- What the tests that were passed say.
+
+-- each field of the header fits its bits
+release-bounds : (r : Release) → narrowRelease r ≡ true → (r .release < 8) × (r .version < 32)
+release-bounds r e =
+    let t = both (leb (r .release) 7 && leb (r .version) 31) (eqb (r .release) 7 || eqb (r .extension) 0) e in
+    let u = both (leb (r .release) 7) (leb (r .version) 31) (t .0) in
+    let release = leb-true (r .release) 7 (u .0) in
+    let version = leb-true (r .version) 31 (u .1) in
+    (omega arith, omega arith)
+
+pub writable : (h : Header) → beyondWidth h ≡ false → Writable h
+writable h e =
+    let all = not-false (narrowRelease (h .high) && narrowRelease (h .low) && narrow (h .opened) && narrow (h .appended)) e in
+    let t = both (narrowRelease (h .high) && narrowRelease (h .low) && narrow (h .opened)) (narrow (h .appended)) all in
+    let u = both (narrowRelease (h .high) && narrowRelease (h .low)) (narrow (h .opened)) (t .0) in
+    let v = both (narrowRelease (h .high)) (narrowRelease (h .low)) (u .0) in
+    let high = release-bounds (h .high) (v .0) in
+    let low = release-bounds (h .low) (v .1) in
+    record {
+      high = high .0;
+      high-version = high .1;
+      low = low .0;
+      low-version = low .1;
+      opened = narrow-bounds (h .opened) (u .1);
+      appended = narrow-bounds (h .appended) (t .1);
+    }
+
+-- filter and private octets fit their length fields
+pub short : (h : Header) (filter private : List ℕ) → wrongValue h filter private ≡ false → (length filter ≤ 65534) × (length private ≤ 65534)
+short h filter private e =
+    let t = or-false (not (right (h .opened)) || not (right (h .appended)) || ltb 65534 (length filter)) (ltb 65534 (length private)) e in
+    let u = or-false (not (right (h .opened)) || not (right (h .appended))) (ltb 65534 (length filter)) (t .0) in
+    (ltb-false 65534 (length filter) (u .1), ltb-false 65534 (length private) (t .1))
+
+-- so the header is short, and the sum of its length and that of any slice fits a machine word
+private-most : (p : List ℕ) → length (privateOctets p) ≤ 2 + length p
+private-most p = most (eqb (length p) 0)
+  where
+    most : (b : Bool) → length (cond b [] (be 2 (length p) ++ p)) ≤ 2 + length p
+    most true = omega arith
+    most false = omega arith
+
+extension-most : (r : Release) → length (extensionOctets r) ≤ 1
+extension-most r = most (eqb (r .release) 7)
+  where
+    most : (b : Bool) → length (cond b (r .extension ∷ []) []) ≤ 1
+    most true = omega arith
+    most false = omega arith
+
+pub header-most : (h : Header) (filter private : List ℕ) → wrongValue h filter private ≡ false → headerLength h filter private ≤ 131122
+header-most h filter private e =
+    let s = short h filter private e in
+    omega (arith, private-most private, extension-most (h .high), extension-most (h .low))
+
+-- so a file that is short enough can be laid out over an output that is long enough
+pub layable : (h : Header) (filter private records output : List ℕ) → beyondWidth h ≡ false → neededOctets h filter private records ≤ 1048576
+    → neededOctets h filter private records ≤ length output → {count : ℕ} → count ≡ tallyOf records .count → Layable h filter private records count output
+layable h filter private records output a size room {count} e =
+    let n = file-length h filter private records count in
+    let few = four-each records in
+    record { fields = writable h a; few = omega arith; size = omega arith; room = omega arith }

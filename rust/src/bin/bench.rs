@@ -1,0 +1,127 @@
+//! Times the proved reader and writer beside Rust on the same files in the same run, and prints
+//! their ratios. It asserts nothing.
+
+use leveehum::draft::Draft;
+use leveehum::fields::Release;
+use leveehum::proved;
+use leveehum::random::Random;
+use leveehum::second::{self, Contents, LONGEST_FILE};
+use std::hint::black_box;
+use std::time::Instant;
+
+const RUNS: usize = 300;
+const WARM_UP: usize = 20;
+/// Steps in one run: a single one is too short for the clock.
+const STEPS: usize = 10_000;
+
+fn main() {
+    println!("nanoseconds, best of {RUNS} interleaved runs");
+    println!(
+        "{:52} {:>12} {:>12} {:>8}",
+        "case", "proved", "baseline", "ratio"
+    );
+    for (name, body) in [("4-octet records", 0), ("1,000-octet bodies", 1_000)] {
+        let file = file(body);
+        let contents = second::read(&file).expect("the file is right");
+        let case = format!("{name} ({} records)", contents.count);
+        time_reading(&case, &file);
+        time_writing(&case, &file, &contents);
+        time_steps(&case, &file, body);
+    }
+}
+
+/// A file of exactly 1 MiB.
+fn file(body: usize) -> Vec<u8> {
+    let release = Release {
+        release: 4,
+        extension: 0,
+        version: 3,
+    };
+    let mut random = Random::new(1);
+    Draft::of_length(&mut random, LONGEST_FILE, release, body)
+        .lay()
+        .octets
+}
+
+fn time_reading(case: &str, file: &[u8]) {
+    let read_proved = || {
+        black_box(proved::read(black_box(file)));
+    };
+    let read_second = || {
+        let _ = black_box(second::read(black_box(file)));
+    };
+    let pair = best_of_both(read_proved, read_second);
+    print_case(&format!("read / second, {case}"), pair, 1);
+}
+
+fn time_writing(case: &str, file: &[u8], contents: &Contents) {
+    let [filter, private, records] =
+        [&contents.filter, &contents.private, &contents.records].map(|part| &file[part.clone()]);
+    let header = &contents.header;
+    let mut output = vec![0; file.len()];
+    let mut copy = vec![0; file.len()];
+    let mut write_proved = || {
+        let output = black_box(&mut output[..]);
+        black_box(proved::write(header, filter, private, records, output));
+    };
+    let pair = best_of_both(&mut write_proved, || {
+        black_box(&mut copy[..]).copy_from_slice(black_box(file));
+    });
+    print_case(&format!("write / copy, {case}"), pair, 1);
+    let pair = best_of_both(&mut write_proved, || {
+        let output = black_box(&mut copy[..]);
+        let _ = black_box(second::write(header, filter, private, records, output));
+    });
+    print_case(&format!("write / second, {case}"), pair, 1);
+}
+
+/// Steps at the first record and at the last: they should cost the same.
+fn time_steps(case: &str, file: &[u8], body: usize) {
+    let first = second::read(file).expect("the file is right").records.start;
+    let last = file.len() - (4 + body);
+    for (name, at) in [("first", first), ("last", last)] {
+        let pair = best_of_both(
+            || {
+                for _ in 0..STEPS {
+                    black_box(proved::step_at(black_box(file), black_box(at)));
+                }
+            },
+            || {
+                for _ in 0..STEPS {
+                    let _ = black_box(second::step(black_box(file), black_box(at)));
+                }
+            },
+        );
+        print_case(&format!("step at the {name}, {case}"), pair, STEPS);
+    }
+}
+
+/// The best time of each, in nanoseconds; they take turns, so that both meet the same machine.
+fn best_of_both(mut proved: impl FnMut(), mut baseline: impl FnMut()) -> [f64; 2] {
+    for _ in 0..WARM_UP {
+        proved();
+        baseline();
+    }
+    let mut best = [f64::INFINITY; 2];
+    for _ in 0..RUNS {
+        best[0] = best[0].min(nanoseconds(&mut proved));
+        best[1] = best[1].min(nanoseconds(&mut baseline));
+    }
+    best
+}
+
+fn nanoseconds(run: &mut impl FnMut()) -> f64 {
+    let start = Instant::now();
+    run();
+    start.elapsed().as_nanos() as f64
+}
+
+fn print_case(case: &str, [proved, baseline]: [f64; 2], times: usize) {
+    let each = times as f64;
+    println!(
+        "{case:52} {:12.1} {:12.1} {:8.2}",
+        proved / each,
+        baseline / each,
+        proved / baseline
+    );
+}

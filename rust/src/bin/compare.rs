@@ -1,0 +1,385 @@
+//! Compares the second reader and writer with the proved ones, in one process and from a fixed
+//! seed: prints how often each answer came, or the first difference and the file in hexadecimal.
+
+use leveehum::fields::Header;
+use leveehum::files::FAMILIES;
+use leveehum::inputs::{self, Input};
+use leveehum::proved::{self, Part, Read, Stamped, Step, Written};
+use leveehum::random::Random;
+use leveehum::second::{self, Contents, LAST_MINUTE, WIDEST_OFFSET};
+use std::collections::BTreeMap;
+use std::fmt::Debug;
+use std::ops::Range;
+use std::process::ExitCode;
+use std::time::Instant;
+
+const SEED: u64 = 0x3229_7000_2026_0001;
+/// The fewest files that a run must have compared.
+const LEAST_FILES: usize = 20_000;
+/// Rounds over the writer's faults; files that are too long are slow, so they are in few.
+const WRITER_ROUNDS: usize = 200;
+const LONG_WRITER_ROUNDS: usize = 20;
+const RANDOM_STAMPS: usize = 1_000_000;
+
+/// How often each answer came; 0 is an acceptance.
+type Tally = BTreeMap<u8, usize>;
+
+/// What differed, and the octets on which it did.
+struct Difference {
+    what: String,
+    octets: Vec<u8>,
+}
+
+/// All that a run counts.
+#[derive(Default)]
+struct Counts {
+    files: usize,
+    records: usize,
+    reader: Tally,
+    writer: Tally,
+    step: Tally,
+    stamp: Tally,
+}
+
+fn main() -> ExitCode {
+    let start = Instant::now();
+    let mut counts = Counts::default();
+    if let Err(difference) = run(&mut counts) {
+        println!("DIFFERENCE: {}", difference.what);
+        println!("{}", hexadecimal(&difference.octets));
+        return ExitCode::FAILURE;
+    }
+    println!("{} files, {} records", counts.files, counts.records);
+    let complete = [
+        complete("reader", &counts.reader, &[0, 8, 9, 10, 11, 12, 13]),
+        complete("writer", &counts.writer, &[0, 2, 10, 11, 13, 8, 17]),
+        complete("step", &counts.step, &[0, 11]),
+        complete("timestamp", &counts.stamp, &[0, 4, 2]),
+        counts.files >= LEAST_FILES,
+    ];
+    println!("{:.1} seconds", start.elapsed().as_secs_f64());
+    if complete.contains(&false) {
+        println!("FAILED: an answer never came, or there were too few files");
+        return ExitCode::FAILURE;
+    }
+    println!("no difference");
+    ExitCode::SUCCESS
+}
+
+fn run(counts: &mut Counts) -> Result<(), Difference> {
+    let mut random = Random::new(SEED);
+    for family in &FAMILIES {
+        let mut tally = Tally::new();
+        for _ in 0..family.rounds {
+            for file in (family.batch)(&mut random) {
+                let answer = compare_file(&mut random, &file, counts).map_err(|what| {
+                    let what = format!("{}: {what}", family.name);
+                    Difference { what, octets: file }
+                })?;
+                *tally.entry(answer).or_default() += 1;
+            }
+        }
+        counts.add_family(family.name, &tally);
+    }
+    compare_writers(&mut random, counts)?;
+    compare_stamps(&mut random, &mut counts.stamp).map_err(|what| Difference {
+        what,
+        octets: Vec::new(),
+    })
+}
+
+impl Counts {
+    /// Prints a family's answers and adds them to the reader's.
+    fn add_family(&mut self, name: &str, tally: &Tally) {
+        let files: usize = tally.values().sum();
+        println!("{name:27} {files:6} files: {}", shown(tally));
+        self.files += files;
+        for (&answer, &times) in tally {
+            *self.reader.entry(answer).or_default() += times;
+        }
+    }
+}
+
+/// Prints how often each answer came; whether each that should come did.
+fn complete(name: &str, tally: &Tally, expected: &[u8]) -> bool {
+    println!("{name:27} {}", shown(tally));
+    let came = |answer: &u8| tally.get(answer).is_some_and(|&times| times > 0);
+    expected.iter().all(came)
+}
+
+fn shown(tally: &Tally) -> String {
+    let one = |(&answer, times): (&u8, &usize)| match answer {
+        0 => format!("accepted {times}"),
+        _ => format!("refused {answer}: {times}"),
+    };
+    tally.iter().map(one).collect::<Vec<_>>().join(", ")
+}
+
+fn hexadecimal(octets: &[u8]) -> String {
+    octets.iter().map(|octet| format!("{octet:02X}")).collect()
+}
+
+/// Tells two answers apart.
+fn same<T: PartialEq + Debug>(what: &str, second: T, proved: T) -> Result<(), String> {
+    if second == proved {
+        return Ok(());
+    }
+    Err(format!("{what}: second {second:?}, proved {proved:?}"))
+}
+
+/// Compares all that both sides say of a file; returns the reader's answer.
+fn compare_file(random: &mut Random, file: &[u8], counts: &mut Counts) -> Result<u8, String> {
+    compare_steps(random, file, &mut counts.step)?;
+    let read = proved::read(file);
+    match second::read(file) {
+        Err(refusal) => {
+            let refused = Read {
+                refusal,
+                ..Read::default()
+            };
+            same("read", refused, read)?;
+            Ok(refusal)
+        }
+        Ok(contents) => {
+            compare_contents(&contents, &read)?;
+            counts.records += walk_both(file, &contents)?;
+            write_back(random, file, &contents, &mut counts.writer)?;
+            Ok(0)
+        }
+    }
+}
+
+fn compare_contents(contents: &Contents, read: &Read) -> Result<(), String> {
+    same("read: refusal", 0, read.refusal)?;
+    same("read: header", contents.header, read.header)?;
+    same("read: filter", contents.filter.clone(), read.filter.range())?;
+    same(
+        "read: records",
+        contents.records.clone(),
+        read.records.range(),
+    )?;
+    same("read: count", contents.count, read.count)?;
+    // Without private octets there is no place to compare.
+    same("read: p", contents.private.len(), read.private.octets)?;
+    if contents.private.is_empty() {
+        return Ok(());
+    }
+    same(
+        "read: private",
+        contents.private.clone(),
+        read.private.range(),
+    )
+}
+
+/// Steps from each record's end to the next, on both sides; returns the number of records.
+fn walk_both(file: &[u8], contents: &Contents) -> Result<usize, String> {
+    let Range { start: mut at, end } = contents.records;
+    let mut records = 0;
+    while at < end {
+        at += compare_step(file, at)?.ok_or("walk: a record of an accepted file is refused")?;
+        records += 1;
+    }
+    same("walk: end", end, at)?;
+    same("walk: count", contents.count, records)?;
+    Ok(records)
+}
+
+/// Steps at offsets anywhere, past the end too.
+fn compare_steps(random: &mut Random, file: &[u8], tally: &mut Tally) -> Result<(), String> {
+    let end = file.len();
+    let anywhere = [random.below(end + 8), random.below(end + 1)];
+    // Offsets that would be in the file again if their upper half were lost, or their sum wrapped.
+    let upper = (1 << 32) + random.below(end + 1);
+    let past = [
+        end,
+        end + 1,
+        upper,
+        usize::MAX - random.below(9),
+        usize::MAX,
+    ];
+    for at in anywhere.into_iter().chain([random.pick(&past)]) {
+        let answer = match compare_step(file, at)? {
+            Some(_) => 0,
+            None => 11,
+        };
+        *tally.entry(answer).or_default() += 1;
+    }
+    Ok(())
+}
+
+/// One step on both sides; returns the record's octets, or none where both refuse.
+fn compare_step(file: &[u8], at: usize) -> Result<Option<usize>, String> {
+    let (step, body) = (proved::step_at(file, at), proved::body_at(file, at));
+    let expected = match second::step(file, at) {
+        Err(refusal) => Step {
+            refusal,
+            ..Step::default()
+        },
+        Ok(record) => Step {
+            refusal: 0,
+            fields: record.fields,
+            header: record.header,
+            body: record.body.len(),
+        },
+    };
+    let expected_body = match expected.refusal {
+        0 => Part {
+            start: at + expected.header,
+            octets: expected.body,
+        },
+        _ => Part::default(),
+    };
+    // A million steps: the words for a difference are made only when there is one.
+    if (expected, expected_body) == (step, body) {
+        return Ok((step.refusal == 0).then_some(step.header + step.body));
+    }
+    same(&format!("step at {at}"), expected, step)?;
+    same(&format!("body at {at}"), expected_body, body)?;
+    Ok(None)
+}
+
+/// Lets the proved writer write what was read: it must give the file again, and refuse an output
+/// one octet short.
+fn write_back(
+    random: &mut Random,
+    file: &[u8],
+    contents: &Contents,
+    tally: &mut Tally,
+) -> Result<(), String> {
+    let [filter, private, records] =
+        [&contents.filter, &contents.private, &contents.records].map(|part| &file[part.clone()]);
+    let parts = [filter, private, records];
+    let behind = random.between(1, 40);
+    let before = background(random, file.len() + behind);
+    let mut expected = before.clone();
+    expected[..file.len()].copy_from_slice(file);
+    let enough = Written {
+        refusal: 0,
+        octets: file.len(),
+    };
+    write_proved(&contents.header, parts, before, enough, &expected, tally)?;
+    let short = background(random, file.len() - 1);
+    let needed = Written {
+        refusal: 17,
+        octets: file.len(),
+    };
+    write_proved(
+        &contents.header,
+        parts,
+        short.clone(),
+        needed,
+        &short,
+        tally,
+    )
+}
+
+/// Lets the proved writer write into `output`, and compares its answer and all octets there.
+fn write_proved(
+    header: &Header,
+    [filter, private, records]: [&[u8]; 3],
+    mut output: Vec<u8>,
+    expected: Written,
+    expected_output: &[u8],
+    tally: &mut Tally,
+) -> Result<(), String> {
+    let written = proved::write(header, filter, private, records, &mut output);
+    same("write: answer", expected, written)?;
+    *tally.entry(written.refusal).or_default() += 1;
+    let differs = |at: &usize| output[*at] != expected_output[*at];
+    match (0..output.len()).find(differs) {
+        None => Ok(()),
+        Some(at) => same("write: output", (at, expected_output[at]), (at, output[at])),
+    }
+}
+
+/// What an output holds before a writer comes.
+fn background(random: &mut Random, length: usize) -> Vec<u8> {
+    vec![random.octet(); length]
+}
+
+/// Both writers on every combination of faults.
+fn compare_writers(random: &mut Random, counts: &mut Counts) -> Result<(), Difference> {
+    for round in 0..WRITER_ROUNDS {
+        for combination in 0..inputs::COMBINATIONS {
+            if inputs::has(combination, 8) && round >= LONG_WRITER_ROUNDS {
+                continue;
+            }
+            let given = inputs::input(random, combination);
+            compare_writer(random, &given, &mut counts.writer)
+                .map_err(|what| writer_difference(what, &given))?;
+        }
+    }
+    Ok(())
+}
+
+fn compare_writer(random: &mut Random, given: &Input, tally: &mut Tally) -> Result<(), String> {
+    let parts = [&given.filter[..], &given.private, &given.records];
+    let before = background(random, given.room);
+    let mut output = before.clone();
+    let answer = second::write(&given.header, parts[0], parts[1], parts[2], &mut output);
+    let (refusal, octets) = answer.map_or_else(|refused| refused, |octets| (0, octets));
+    same("second writer against plan", given.answer, refusal)?;
+    let expected = Written { refusal, octets };
+    write_proved(&given.header, parts, before, expected, &output, tally)
+}
+
+/// A writer's input told in words, with its records in hexadecimal.
+fn writer_difference(what: String, given: &Input) -> Difference {
+    let what = format!(
+        "writer: {what}\n{:?}\nfilter {}\nprivate {}\noutput of {} octets, records:",
+        given.header,
+        hexadecimal(&given.filter),
+        hexadecimal(&given.private),
+        given.room
+    );
+    Difference {
+        what,
+        octets: given.records.clone(),
+    }
+}
+
+/// Timestamps: each day's ends, each offset, the ends of both, refused ones, and random ones.
+fn compare_stamps(random: &mut Random, tally: &mut Tally) -> Result<(), String> {
+    const DAY: u32 = 1_440;
+    const LAST_BIAS: u32 = 2 * WIDEST_OFFSET as u32;
+    for midnight in (0..=LAST_MINUTE).step_by(DAY as usize) {
+        for minutes in [midnight, midnight + DAY - 1] {
+            let bias = random.between(0, LAST_BIAS as usize) as u32;
+            for bias in [bias, 0, LAST_BIAS / 2, LAST_BIAS] {
+                compare_stamp(minutes, bias, tally)?;
+            }
+        }
+    }
+    let ends = [0, 1, LAST_MINUTE, LAST_MINUTE + 1, 1 << 31, u32::MAX];
+    for minutes in ends {
+        for bias in (0..=LAST_BIAS + 2).chain([1 << 31, u32::MAX]) {
+            compare_stamp(minutes, bias, tally)?;
+        }
+    }
+    for _ in 0..RANDOM_STAMPS {
+        let minutes = random.between(0, LAST_MINUTE as usize) as u32;
+        let bias = random.between(0, LAST_BIAS as usize) as u32;
+        compare_stamp(minutes, bias, tally)?;
+        if random.once_in(50) {
+            compare_stamp(random.word() as u32, random.word() as u32, tally)?;
+        }
+    }
+    Ok(())
+}
+
+fn compare_stamp(minutes: u32, bias: u32, tally: &mut Tally) -> Result<(), String> {
+    let stamped = proved::stamp(minutes, bias);
+    let expected = match second::timestamp(minutes, i64::from(bias) - WIDEST_OFFSET) {
+        Ok(octets) => Stamped { refusal: 0, octets },
+        Err(refusal) => Stamped {
+            refusal,
+            octets: [0; 4],
+        },
+    };
+    *tally.entry(expected.refusal).or_default() += 1;
+    if expected == stamped {
+        return Ok(());
+    }
+    let what = format!("timestamp of minute {minutes}, bias {bias}");
+    same(&what, expected, stamped)
+}
