@@ -1,6 +1,6 @@
 -- A file read and written again: what the reader hands back goes to the writer, and a refusal of the reader leaves the output
 -- unchanged. Both are public calls of document 01 (Reader); this only joins them. Assumes nothing.
-use mathlib.Core.Path.{_≡_, refl, sym, ap, _∙_}
+use mathlib.Core.Path.{_≡_, refl, sym, ap}
 use mathlib.Core.Bool.{not}
 use mathlib.Core.List.{List, [], _∷_}
 use Prim.Native.Nat.{ℕ, zero, suc, _≤_}
@@ -8,7 +8,7 @@ use native.Mathlib.Omega.{arith}
 use lib.Dec.{eqb, ltb}
 use lib.ListN.{length}
 use borrow.Author.Tests.{ltb-false}
-use Rattle.refusals.specs.Refusal.{Rule, _when_, first, passed}
+use Rattle.refusals.specs.Refusal.{Rule, _when_, passed}
 use Rattle.record.specs.Walk.{tallyOf}
 use Rattle.cdrfile.specs.declared.Header.{Header}
 use Rattle.cdrfile.specs.File.{wrongOrder}

@@ -2,10 +2,9 @@
 -- handed back. Assumes nothing.
 use borrow.Author.Needs.{needs}
 use mathlib.Core.Path.{_≡_, sym, ap, _∙_}
-use mathlib.Core.List.{List}
 use Prim.Native.Nat.{ℕ}
 use Rattle.reader.specs.declared.Contents.{Contents}
-use Rattle.reader.specs.Reader.{readOf, partOf}
+use Rattle.reader.specs.Reader.{readOf}
 use Rattle.writer.specs.Writer.{after, writeOf}
 use Rattle.cdrcopy.specs.Rewrite.{handedOn, rewrite-refused, rewrite-accepted}
 use Rattle.cdrcopy.proofs.rewrite.Statement.{statement}

@@ -1,0 +1,45 @@
+-- A closing (document 01, File header, The events): the whole file of a route, from the state and from the records that stand
+-- from its region's start. The manager writes FF FF FF FF before the 16 octets of the address, and no private extension.
+-- Assumes nothing.
+use mathlib.Core.List.{List, [], _∷_}
+use Prim.Native.Nat.{ℕ, _+_}
+use lib.ListN.{take, drop}
+use Rattle.timestamp.specs.LocalTime.{timestampOf}
+use Rattle.cdrfile.specs.declared.Header.{Header}
+use Rattle.cdrfile.specs.File.{fileOctets}
+use Rattle.state.specs.declared.Route.{Route}
+use Rattle.state.specs.declared.Manager.{Manager}
+use Rattle.state.specs.Manager.{routeAt, filterOf, base}
+use Rattle.state.specs.Size.{headerSize}
+use Rattle.state.specs.Loss.{indicator}
+
+-- the octets before every address
+abbrev pub filler : List ℕ
+filler = 0xFF ∷ 0xFF ∷ 0xFF ∷ 0xFF ∷ []
+
+-- the header's fields at a closing with a reason
+abbrev pub headerFor : Manager → Route → ℕ → Header
+headerFor m r reason =
+    record {
+      high = r .file .high;
+      low = r .file .low;
+      opened = timestampOf (r .file .opened) (m .bias);
+      appended = timestampOf (r .file .appended) (m .bias);
+      sequence = r .file .sequence;
+      reason = reason;
+      address = 0xFF ∷ 0xFF ∷ 0xFF ∷ 0xFF ∷ m .address;
+      lost = indicator (r .losses) (r .note);
+    }
+
+-- the file's records, as they stand in the store
+abbrev pub recordsAt : Manager → List ℕ → ℕ → List ℕ
+recordsAt m store i = take (routeAt m i .file .octets) (drop (base m i) store)
+
+-- the file that a closing writes
+unfoldable pub closedFile : Manager → List ℕ → ℕ → ℕ → List ℕ
+closedFile m store i reason =
+    fileOctets (headerFor m (routeAt m i) reason) (filterOf (routeAt m i .settings)) [] (recordsAt m store i) (routeAt m i .file .count)
+
+-- how long it is, from the state alone
+abbrev pub closedSize : Route → ℕ
+closedSize r = headerSize (r .settings .octets) (r .file .high) (r .file .low) + r .file .octets

@@ -1,0 +1,4 @@
+pub mod Closing
+pub mod Closed
+pub mod Needs
+pub mod Laws

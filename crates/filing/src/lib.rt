@@ -1,0 +1,104 @@
+// The manager's files: a record appended to its route's region of the store, and a file closed into the output.
+use cdrfile::Header;
+use record::RecordHeader;
+use state::Manager;
+use state::Route;
+ghost use mathlib.Core.Path.{_≡_};
+ghost use mathlib.Core.List.{_++_};
+ghost use Prim.Native.Nat.{_+_};
+ghost use Rattle.octets.specs.Splice.{splice};
+ghost use Rattle.record.specs.Record.{recordOctets};
+ghost use Rattle.filing.specs.Closing.{filler, headerFor};
+ghost use Rattle.filing.specs.Closed.{closedFrom};
+ghost use Rattle.filing.specs.Needs.{Appendable, Fitting, Headed, Closable};
+
+// Writes a record over the part of the store that is lent, from `used` on.
+fn append_to(part: &mut [u8], used: usize, h: RecordHeader, body: &[u8])
+    requires { ⌜ Fitting (now part) used h (now body) ⌝ }
+    ensures { λ _. ⌜ now (part .exit) ≡ splice (now (part .entry)) used (recordOctets (record { header = h; body = now (body .entry) })) ⌝ }
+{
+    let header = record::header_octets(h, body.len());
+    let n = record::header_length_of(h.release);
+    octets::copy(part, used, &header[..n]);
+    octets::copy(part, used + n, body);
+}
+
+// Appends a record to its route's region of the store, which starts at `base` and is `limit` octets long: it goes behind the
+// `used` octets of the file's records there.
+pub fn append(
+    store: &mut [u8],
+    base: usize,
+    limit: usize,
+    used: usize,
+    h: RecordHeader,
+    body: &[u8],
+)
+    requires { ⌜ Appendable (now store) base limit used h (now body) ⌝ }
+    ensures { λ _. ⌜ now (store .exit) ≡ splice (now (store .entry)) (base + used) (recordOctets (record { header = h; body = now (body .entry) })) ⌝ }
+{
+    let end = base + limit;
+    append_to(&mut store[base..end], used, h, body);
+}
+
+// The 20 octets of the address: the fixed ones, and the node's 16 behind them.
+fn address_of(node: [u8; 16]) -> [u8; 20]
+    ensures { λ r. ⌜ r ≡ filler ++ node ⌝ }
+{
+    let mut address = [0u8; 20];
+    octets::copy(&mut address, 0, b"\xFF\xFF\xFF\xFF");
+    octets::copy(&mut address, 4, &node);
+    address
+}
+
+// The header's fields at a closing. `lost` is the route's lost indicator.
+fn header_for(m: Manager, r: Route, reason: u8, lost: u8) -> Header
+    requires { ⌜ Headed m r lost ⌝ }
+    ensures { λ h. ⌜ h ≡ headerFor m r reason ⌝ }
+{
+    let f = r.file;
+    let high = f.high;
+    let low = f.low;
+    let node = m.address;
+    let opened = timestamp::at(f.opened, m.bias);
+    let appended = timestamp::at(f.appended, m.bias);
+    let address = address_of(node);
+    Header {
+        high: high,
+        low: low,
+        opened: opened,
+        appended: appended,
+        sequence: f.sequence,
+        reason: reason,
+        address: address,
+        lost: lost,
+    }
+}
+
+// Closes the route's file over the output from `at` on. The file's records stand in the store from `base` on, the start of the
+// route's region, and `lost` is the route's lost indicator.
+pub fn close_into(
+    m: Manager,
+    r: Route,
+    reason: u8,
+    lost: u8,
+    store: &[u8],
+    base: usize,
+    output: &mut [u8],
+    at: usize,
+)
+    requires { ⌜ Closable m r lost (now store) base (now output) at ⌝ }
+    ensures { λ _. ⌜ now (output .exit) ≡ splice (now (output .entry)) at (closedFrom m r reason (now (store .entry)) base) ⌝ }
+{
+    let h = header_for(m, r, reason, lost);
+    let filter = r.settings.filter;
+    let octets = r.settings.octets as usize;
+    let end = base + r.file.octets as usize;
+    cdrfile::lay_out(
+        h,
+        &filter[..octets],
+        b"",
+        &store[base..end],
+        r.file.count as usize,
+        &mut output[at..],
+    );
+}

@@ -1,0 +1,111 @@
+-- What accepted settings say of their manager (document 01, Settings; Refusals 1, 2, 3 and 18): it has 1 to 8 routes, each in
+-- range, closed and with a filter of its own, so that it is within the bounds of refusal 18; and that the state of a refusal is
+-- not. Assumes nothing.
+use mathlib.Core.Path.{_≡_, refl, ap, _∙_}
+use mathlib.Core.Bool.{true, false, not}
+use mathlib.Core.List.{List, [], _∷_}
+use Prim.Native.Nat.{ℕ, zero, suc, _≤_, _<_}
+use native.Mathlib.Omega.{arith}
+use native.Mathlib.Decide.{ℕ-discrete}
+use lib.Dec.{ltb}
+use lib.ListN.{length, length-set, length-replicate}
+use lib.Seq.{getD-set-same, getD-set-other}
+use borrow.Author.Tests.{ltb-false, le-leb, not-false}
+use Rattle.octets.specs.Number.{num}
+use Rattle.refusals.specs.Refusal.{_when_, passed, or-false}
+use Rattle.timestamp.specs.Tests.{both}
+use Rattle.state.specs.declared.Route.{Route}
+use Rattle.state.specs.Manager.{noRoute, routeAt}
+use Rattle.state.specs.Bounds.{settingsRight, distinct, routeRight, routesRight, stateRight}
+use Rattle.settings.specs.Settings.{routesIn, routeStart, wrongShape, beyondRange, equalFilters, inRange, settingsFrom, routeFrom, unusedRoute, routesFrom, managerFrom, noManager, settled, verdict, freshOf}
+use Rattle.settings.specs.Cases.{Shaped, shaped}
+
+-- the routes are eight, and the configured ones are those of the octets
+pub routes-length : (xs : List ℕ) (n : ℕ) → length (routesFrom xs n) ≡ 8
+routes-length xs zero = length-replicate 8 unusedRoute
+routes-length xs (suc n) = length-set (routesFrom xs n) n (routeFrom xs (routeStart n)) ∙ routes-length xs n
+
+pub route-from : (xs : List ℕ) (n i : ℕ) → i < n → n ≤ 8 → routeAt (managerFrom xs n) i ≡ routeFrom xs (routeStart i)
+route-from xs zero i h m = absurd (omega arith)
+route-from xs (suc n) i h m = elim (ℕ-discrete i n) [
+  | yes e ↦
+      let l : n < length (routesFrom xs n) = rw (routes-length xs n) (omega arith) in
+      rw e (getD-set-same (routesFrom xs n) n (routeFrom xs (routeStart n)) noRoute l)
+  | no e ↦
+      getD-set-other (routesFrom xs n) n i (routeFrom xs (routeStart n)) noRoute e ∙ route-from xs n i (omega arith) (omega arith)
+]
+
+-- a fresh route in range is right: nothing is open
+fresh-right : (xs : List ℕ) (k : ℕ) {r : Route} → r ≡ routeFrom xs k → settingsRight (settingsFrom xs k) ≡ true → routeRight 0 r ≡ true
+fresh-right xs k e s = ap (routeRight 0) e ∙ rw s
+
+range-right : (xs : List ℕ) (m n : ℕ) → n ≤ m → m ≤ 8 → inRange xs n ≡ true → routesRight (managerFrom xs m) n ≡ true
+range-right xs m zero h b e = refl
+range-right xs m (suc n) h b e =
+    let t = both (inRange xs n) (settingsRight (settingsFrom xs (routeStart n))) e in
+    let before = range-right xs m n (omega arith) b (t .0) in
+    let here = fresh-right xs (routeStart n) (route-from xs m n (omega arith) b) (t .1) in
+    rw (before, here)
+
+each-range : (xs : List ℕ) (n i : ℕ) → i < n → inRange xs n ≡ true → settingsRight (settingsFrom xs (routeStart i)) ≡ true
+each-range xs zero i h e = absurd (omega arith)
+each-range xs (suc n) i h e =
+    let t = both (inRange xs n) (settingsRight (settingsFrom xs (routeStart n))) e in
+    elim (ℕ-discrete i n) [
+      | yes p ↦ rw p (t .1)
+      | no p ↦ each-range xs n i (omega arith) (t .0)
+    ]
+
+-- What accepted settings say.
+pub record Accepted (xs : List ℕ) : Type 0 where
+  pub shape : Shaped xs
+  pub bias : num 2 xs 17 ≤ 2878
+  pub range : inRange xs (routesIn xs) ≡ true
+  pub filters : distinct (managerFrom xs (routesIn xs)) (routesIn xs) ≡ true
+
+module _ (xs : List ℕ) where
+  pub refusal-is : freshOf xs .refusal ≡ verdict xs
+  unfolding freshOf
+  refusal-is = settled-refusal (verdict xs)
+    where
+      settled-refusal : (n : ℕ) → settled n xs .refusal ≡ n
+      settled-refusal zero = refl
+      settled-refusal (suc n) = refl
+
+  pub manager-is : verdict xs ≡ 0 → freshOf xs ≡ record { refusal = 0; manager = managerFrom xs (routesIn xs) }
+  unfolding freshOf
+  manager-is e = ap (λ (n : ℕ). settled n xs) e
+
+  pub accepted : verdict xs ≡ 0 → Accepted xs
+  unfolding verdict beyondRange equalFilters
+  accepted e =
+      let a = passed 0 (wrongShape xs) ((2 when beyondRange xs) ∷ (3 when equalFilters xs) ∷ []) e in
+      let b = passed 1 (beyondRange xs) ((3 when equalFilters xs) ∷ []) (a .1) in
+      let c = passed 2 (equalFilters xs) [] (b .1) in
+      let d = or-false (ltb 2878 (num 2 xs 17)) (not (inRange xs (routesIn xs))) (b .0) in
+      record {
+        shape = shaped xs (a .0);
+        bias = ltb-false 2878 (num 2 xs 17) (d .0);
+        range = not-false (inRange xs (routesIn xs)) (d .1);
+        filters = not-false (distinct (managerFrom xs (routesIn xs)) (routesIn xs)) (c .0);
+      }
+
+  -- the fresh manager is within the bounds of refusal 18
+  pub accepted-right : verdict xs ≡ 0 → stateRight (managerFrom xs (routesIn xs)) ≡ true
+  unfolding stateRight
+  accepted-right e =
+      let a = accepted e in
+      let n = routesIn xs in
+      rw (le-leb 1 n (a .shape .some), le-leb n 8 (a .shape .most), le-leb (num 2 xs 17) 2878 (a .bias), range-right xs n n (omega arith) (a .shape .most) (a .range), a .filters)
+
+  -- its routes are those of the octets, each in range
+  pub accepted-route : verdict xs ≡ 0 → (i : ℕ) → i < routesIn xs → routeAt (managerFrom xs (routesIn xs)) i ≡ routeFrom xs (routeStart i)
+  accepted-route e i h = route-from xs (routesIn xs) i h (accepted e .shape .most)
+
+  pub accepted-settings : verdict xs ≡ 0 → (i : ℕ) → i < routesIn xs → settingsRight (settingsFrom xs (routeStart i)) ≡ true
+  accepted-settings e i h = each-range xs (routesIn xs) i h (accepted e .range)
+
+-- the state of a refusal is not within its bounds
+pub refused-wrong : stateRight noManager ≡ false
+unfolding stateRight
+refused-wrong = refl

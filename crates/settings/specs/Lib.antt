@@ -1,0 +1,4 @@
+pub mod Settings
+pub mod Parts
+pub mod Cases
+pub mod Accepted

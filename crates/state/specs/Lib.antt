@@ -1,0 +1,10 @@
+pub mod Manager
+pub mod Size
+pub mod Loss
+pub mod Routing
+pub mod Bounds
+pub mod Regions
+pub mod Holding
+pub mod Longest
+pub mod Within
+pub mod Keep

@@ -1,0 +1,77 @@
+// The manager's state by value, and the rules that look at it alone: sizes, routing, losses, and its bounds (refusal 18).
+mod bounds;
+mod loss;
+mod regions;
+mod routing;
+mod size;
+
+pub use bounds::are_distinct;
+pub use bounds::settings_right;
+pub use bounds::state_right;
+pub use loss::is_lost;
+pub use loss::lost_indicator;
+use record::Release;
+pub use regions::effective_time;
+pub use regions::region_base;
+pub use regions::regions_of;
+pub use routing::route_of;
+pub use size::header_size;
+
+// A route's settings (document 01, Settings): its filter, of which `octets` count and the rest are 0; the size limit; the
+// open-time limit in minutes and the most records, 0 for none; the flag for one release and version per file; and the release
+// and version of an empty file.
+#[repr(C)]
+pub struct RouteSettings {
+    pub filter: [u8; 20],
+    pub octets: u8,
+    pub limit: u32,
+    pub age: u32,
+    pub most: u32,
+    pub flag: u8,
+    pub release: Release,
+}
+
+// An open file: its sequence number, the minutes of opening and last append, the greatest and least release of its records
+// (the configured one where it has none), their format, their number and their octets.
+#[repr(C)]
+pub struct OpenFile {
+    pub sequence: u32,
+    pub opened: u32,
+    pub appended: u32,
+    pub high: Release,
+    pub low: Release,
+    pub format: u8,
+    pub count: u32,
+    pub octets: u32,
+}
+
+// A route: its settings, its next sequence number, the known losses and the note of an unrouted record since its last file
+// closed, and its open file, if any.
+#[repr(C)]
+pub struct Route {
+    pub settings: RouteSettings,
+    pub next: u32,
+    pub losses: u32,
+    pub note: bool,
+    pub open: bool,
+    pub file: OpenFile,
+}
+
+// The manager: up to eight routes of which `count` are configured, the node's address and UTC offset plus 1,439, the effective
+// time of the last accepted event, and the number of unrouted records since fresh.
+#[repr(C)]
+pub struct Manager {
+    pub routes: [Route; 8],
+    pub count: u8,
+    pub address: [u8; 16],
+    pub bias: u32,
+    pub last: u32,
+    pub unrouted: u32,
+}
+
+// What routing found: whether a route fits, which one, and how many octets its filter has.
+pub struct Routed {
+    pub found: bool,
+    pub at: usize,
+    pub octets: u8,
+}
