@@ -3,9 +3,10 @@
 -- octets or numbers that the papers give, so that a definition that is wrong there is refused. Rows that are not starred are
 -- executed by this crate's program. Assumes nothing.
 use mathlib.Core.Path.{_≡_, refl}
+use mathlib.Core.Bool.{true, false}
 use mathlib.Core.List.{List, [], _∷_, _++_}
 use Prim.Native.Nat.{ℕ, _+_, _-_}
-use lib.ListN.{set, replicate, take}
+use lib.ListN.{getD, set, replicate, take}
 use Rattle.octets.specs.Splice.{splice}
 use Rattle.calendar.specs.Calendar.{dateFrom, monthDays}
 use Rattle.timestamp.specs.Timestamp.{wordOf, fieldsOf}
@@ -22,6 +23,19 @@ use Rattle.reader.specs.Places.{headerAt}
 use Rattle.reader.specs.Reader.{wrongLength, wrongHeaderLength, verdict, refusedContents, readOf}
 use Rattle.writer.specs.Writer.{after, writeOf}
 use Rattle.writer.specs.Writer.{verdict as writerVerdict}
+use Rattle.state.specs.Loss.{indicator}
+use Rattle.state.specs.Routing.{fits, routeOf}
+use Rattle.state.specs.Bounds.{sameFilter, settingsRight, fileRight, stateRight}
+use Rattle.settings.specs.Settings.{wrongShape, beyondRange, equalFilters, freshOf}
+use Rattle.settings.specs.Settings.{verdict as settingsVerdict}
+use Rattle.filing.specs.Closing.{closedFile}
+use Rattle.manager.specs.declared.Arrival.{Arrival}
+use Rattle.manager.specs.declared.Answer.{Answer}
+use Rattle.manager.specs.Events.{answered, openOf, closeOf}
+use Rattle.manager.specs.Receive.{receiveOf}
+use Rattle.ledger.specs.Event.{Event, OPEN, CLOSE, RECEIVE}
+use Rattle.ledger.specs.Ledger.{answerOf, entryOf}
+use Rattle.edge_table.specs.Manager.{release4, release7, receive, answers, outputs, booked, filed}
 
 -- an offset in minutes ahead of UTC or behind it, as the calls take it: with 1,439 added
 abbrev ahead : ℕ → ℕ
@@ -85,6 +99,25 @@ octets =
     ∷ 0x00 ∷ 0x02 ∷ 0x83 ∷ 0x2F
     ∷ 0xA1 ∷ 0xB2 ∷ []
 
+-- a record on the table's route, by the manager's definitions and by the ledger's
+abbrev placed : Answer
+placed = answered 2 0 0 0
+
+abbrev Placed : Arrival → ℕ → Type 0
+Placed a body = (answers (receive a body ∷ []) ≡ placed ∷ []) × (booked (receive a body ∷ []) ≡ placed ∷ [])
+
+abbrev LostThere : Arrival → ℕ → Type 0
+LostThere a body =
+    (answers (receive a body ∷ []) ≡ answered 3 0 0 0 ∷ []) × (booked (receive a body ∷ []) ≡ answered 3 0 0 0 ∷ [])
+
+-- a release-7 record behind a release-4 body of 20
+abbrev behind20 : ℕ → List Event
+behind20 body = receive release4 20 ∷ receive release7 body ∷ []
+
+-- the table's file through the events: opened, one record, closed with 4
+abbrev fileEvents : List Event
+fileEvents = OPEN 0 0 ∷ RECEIVE 0 release4 [] (0xA1 ∷ 0xB2 ∷ []) ∷ CLOSE 0 0 4 ∷ []
+
 -- The starred rows.
 abbrev pub EdgeTable : Type 0
 EdgeTable =
@@ -96,12 +129,50 @@ EdgeTable =
     × Stamps 84960 (ahead 0) (0x2E ∷ 0x80 ∷ 0x08 ∷ 0x00 ∷ [])
     -- offset 120, minute 8,547,030: 40 B1 E8 80
     × Stamps 8547030 (ahead 120) (0x40 ∷ 0xB1 ∷ 0xE8 ∷ 0x80 ∷ [])
-    -- the file
+    -- without u: 0, 127, 40,000 give 0, 255, 255
+    × (indicator 0 false ≡ 0) × (indicator 127 false ≡ 255) × (indicator 40000 false ≡ 255)
+    -- with u: 0, 3, 127 give 128, 3, 127
+    × (indicator 0 true ≡ 128) × (indicator 3 true ≡ 3) × (indicator 127 true ≡ 127)
+    -- limit 128, f 0, release 4: body 74 placed, 75 lost; release 7: 71 placed, 72 lost
+    × Placed release4 74 × LostThere release4 75
+    × Placed release7 71 × LostThere release7 72
+    -- that file holding a release-4 body of 20, flag 0: release-7 body 48 of the same format joins it, 49 closes it with 1
+    × (answers (behind20 48) ≡ placed ∷ placed ∷ [])
+    × (answers (behind20 49) ≡ placed ∷ answered 2 0 1 74 ∷ [])
+    × (booked (behind20 48) ≡ placed ∷ placed ∷ [])
+    × (booked (behind20 49) ≡ placed ∷ answered 2 0 1 74 ∷ [])
+    × (getD (getD (outputs 74 (behind20 49)) 1 []) 26 0 ≡ 1)
+    -- the file, as a layout and through the events
     × (layout file ≡ octets)
+    × (outputs 58 fileEvents ≡ replicate 58 0xEE ∷ replicate 58 0xEE ∷ (octets ++ (0xEE ∷ 0xEE ∷ [])) ∷ [])
+    × (filed fileEvents ≡ [] ∷ [] ∷ octets ∷ [])
 
 pub edge-table : EdgeTable
-unfolding stampOf timestampOf wordOf dateFrom monthDays fileOctets fixedOctets recordsOctets recordOctets
-edge-table = (refl, refl, refl, refl, refl)
+unfolding stampOf timestampOf wordOf dateFrom monthDays fileOctets fixedOctets recordsOctets recordOctets highest lowest freshOf settingsVerdict wrongShape beyondRange equalFilters settingsRight sameFilter stateRight fileRight fits routeOf openOf closeOf receiveOf closedFile splice answerOf entryOf
+edge-table = (
+  refl,
+  refl,
+  refl,
+  refl,
+  refl,
+  refl,
+  refl,
+  refl,
+  refl,
+  refl,
+  (refl, refl),
+  (refl, refl),
+  (refl, refl),
+  (refl, refl),
+  refl,
+  refl,
+  refl,
+  refl,
+  refl,
+  refl,
+  refl,
+  refl,
+)
 
 -- Further cases. Timestamps: both ends of local time, both refusals, and the two times of 000, 6.2, examples 1 and 2.
 abbrev pub MoreTimestamps : Type 0

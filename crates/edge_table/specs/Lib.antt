@@ -1,1 +1,2 @@
+pub mod Manager
 pub mod EdgeTable

@@ -1,5 +1,6 @@
-// The edge table's rows that are executed: timestamps, damaged files, and the table's file read, stepped over and written. Each
-// case is a line, and the file `stdout` has what is expected. The starred rows are shown by evaluation in specs/EdgeTable.
+// The edge table's rows that are executed: timestamps, lost indicators, damaged files, and the table's file read, stepped over
+// and written. Each case is a line, and the file `stdout` has what is expected. The starred rows are shown by evaluation in
+// specs/EdgeTable.
 use libc::STDOUT_FILENO;
 ghost use mathlib.Core.Path.{_≡_};
 ghost use Prim.Native.Nat.{_<_};
@@ -72,6 +73,27 @@ fn far_stamps() {
     stamp(0, 2879);
     stamp(0, 4294967295);
     stamp(52596000, 2879);
+}
+
+// The lost indicator of so many known losses, without the note of an unrouted record and with it.
+fn indicator(losses: u32) {
+    field(b"losses ", losses as usize);
+    field(b": ", state::lost_indicator(losses, false) as usize);
+    field(b", noted ", state::lost_indicator(losses, true) as usize);
+    end();
+}
+
+// The table's rows, and the numbers on either side of where the indicator stops counting.
+fn indicators() {
+    indicator(0);
+    indicator(1);
+    indicator(3);
+    indicator(126);
+    indicator(127);
+    indicator(128);
+    indicator(200);
+    indicator(40000);
+    indicator(4294967295);
 }
 
 // The table's file.
@@ -236,6 +258,7 @@ fn table_file_cases() {
 fn main() {
     stamps();
     far_stamps();
+    indicators();
     damaged_headers();
     damaged_records();
     table_file_cases();

@@ -1,8 +1,12 @@
 // The public calls for programs in other languages, under C's calling convention: tests and benchmarks link them.
 use cdrfile::Header;
+use manager::Arrival;
+use manager::Outcome;
 use reader::Contents;
 use reader::Part;
 use record::Stepped;
+use settings::Fresh;
+use state::Manager;
 use timestamp::Stamped;
 use writer::Written;
 ghost use mathlib.Core.Path.{_≡_};
@@ -10,6 +14,10 @@ ghost use Rattle.record.specs.Step.{stepAt};
 ghost use Rattle.reader.specs.Reader.{readOf};
 ghost use Rattle.timestamp.specs.Stamp.{stampOf};
 ghost use Rattle.writer.specs.Writer.{after, writeOf};
+ghost use Rattle.settings.specs.Settings.{freshOf};
+ghost use Rattle.manager.specs.Events.{openOf, closeOf, tickOf};
+ghost use Rattle.manager.specs.Events.{after as left};
+ghost use Rattle.manager.specs.Receive.{receiveOf};
 ghost use Rattle.exports.specs.Place.{bodyPlace};
 
 #[no_mangle]
@@ -63,4 +71,60 @@ pub extern "C" fn cdr_body_at(file: &[u8], at: usize) -> Part
         start: at + s.header,
         octets: body.len(),
     }
+}
+
+#[no_mangle]
+pub extern "C" fn cdr_load(octets: &[u8]) -> Fresh
+    ensures { λ r. ⌜ r ≡ freshOf (now (octets .entry)) ⌝ }
+{
+    settings::load(octets)
+}
+
+#[no_mangle]
+pub extern "C" fn cdr_open(
+    m: Manager,
+    store: &mut [u8],
+    output: &mut [u8],
+    time: u32,
+    route: u32,
+) -> Outcome
+    ensures { λ r. ⌜ left r (now (store .exit)) (now (output .exit)) ≡ openOf m (now (store .entry)) (now (output .entry)) time route ⌝ }
+{
+    manager::open(m, store, output, time, route)
+}
+
+#[no_mangle]
+pub extern "C" fn cdr_close(
+    m: Manager,
+    store: &mut [u8],
+    output: &mut [u8],
+    time: u32,
+    route: u32,
+    reason: u32,
+) -> Outcome
+    ensures { λ r. ⌜ left r (now (store .exit)) (now (output .exit)) ≡ closeOf m (now (store .entry)) (now (output .entry)) time route reason ⌝ }
+{
+    manager::close(m, store, output, time, route, reason)
+}
+
+#[no_mangle]
+pub extern "C" fn cdr_tick(m: Manager, store: &mut [u8], output: &mut [u8], time: u32) -> Outcome
+    ensures { λ r. ⌜ left r (now (store .exit)) (now (output .exit)) ≡ tickOf m (now (store .entry)) (now (output .entry)) time ⌝ }
+{
+    manager::tick(m, store, output, time)
+}
+
+#[no_mangle]
+pub extern "C" fn cdr_receive(
+    m: Manager,
+    store: &mut [u8],
+    output: &mut [u8],
+    time: u32,
+    a: Arrival,
+    key: &[u8],
+    body: &[u8],
+) -> Outcome
+    ensures { λ r. ⌜ left r (now (store .exit)) (now (output .exit)) ≡ receiveOf m (now (store .entry)) (now (output .entry)) time a (now (key .entry)) (now (body .entry)) ⌝ }
+{
+    receiving::receive(m, store, output, time, a, key, body)
 }

@@ -20,44 +20,45 @@ abbrev pub indicator : ℕ → Bool → ℕ
 indicator n false = cond (eqb n 0) 0 (128 + min n 127)
 indicator n true = cond (eqb n 0) 128 (min n 127)
 
--- What an indicator SAYS of t, the true losses of the file's time (000, 6.1.1.11): under 0 none; under 1 to 127 at least that
--- many, and maybe more; under 128 that some record was lost, and nothing of t; under 129 to 254 exactly the lower seven bits;
--- under 255 127 or more.
-pub record Says (octet t : ℕ) : Type 0 where
+-- What an indicator SAYS of t, the true losses of the file's time, and of u, that an unrouted record was lost in it (000,
+-- 6.1.1.11): under 0 no t; under 1 to 127 at least that many, and maybe more; under 128 that some record was lost, here the
+-- unrouted one, and nothing of t; under 129 to 254 exactly the lower seven bits; under 255 127 or more.
+pub record Says (octet t : ℕ) (u : Bool) : Type 0 where
   pub none : octet ≡ 0 → t ≡ 0
   pub least : 1 ≤ octet → octet ≤ 127 → octet ≤ t
+  pub some : octet ≡ 128 → u ≡ true
   pub exact : 129 ≤ octet → octet ≤ 254 → t ≡ octet - 128
   pub many : octet ≡ 255 → 127 ≤ t
 
 -- the octet written is true: of t = n without a note, and of any t from n on with one
-says-by : (n t octet : ℕ) (u : Bool) (z : Dec (n ≡ 0)) → indicator n u ≡ octet → n ≤ t → (u ≡ false → t ≡ n) → Says octet t
+says-by : (n t octet : ℕ) (u : Bool) (z : Dec (n ≡ 0)) → indicator n u ≡ octet → n ≤ t → (u ≡ false → t ≡ n) → Says octet t u
 says-by n t octet false (yes e) o le known =
     let k = known refl in
     let v : octet ≡ 0 = sym o ∙ rw (eq-eqb _ _ e) in
-    record { none = λ _. omega arith; least = λ a b. omega arith; exact = λ a b. omega arith; many = λ a. omega arith }
+    record { none = λ _. omega arith; least = λ a b. omega arith; some = λ a. absurd (omega arith); exact = λ a b. omega arith; many = λ a. omega arith }
 says-by n t octet false (no e) o le known =
     let k = known refl in
     let v : octet ≡ 128 + min n 127 = sym o ∙ rw (ne-eqb _ _ e) in
-    record { none = λ a. omega arith; least = λ a b. omega arith; exact = λ a b. omega arith; many = λ a. omega arith }
+    record { none = λ a. omega arith; least = λ a b. omega arith; some = λ a. absurd (omega arith); exact = λ a b. omega arith; many = λ a. omega arith }
 says-by n t octet true (yes e) o le known =
     let v : octet ≡ 128 = sym o ∙ rw (eq-eqb _ _ e) in
-    record { none = λ a. omega arith; least = λ a b. omega arith; exact = λ a b. omega arith; many = λ a. omega arith }
+    record { none = λ a. omega arith; least = λ a b. omega arith; some = λ a. refl; exact = λ a b. omega arith; many = λ a. omega arith }
 says-by n t octet true (no e) o le known =
     let v : octet ≡ min n 127 = sym o ∙ rw (ne-eqb _ _ e) in
-    record { none = λ a. omega arith; least = λ a b. omega arith; exact = λ a b. omega arith; many = λ a. omega arith }
+    record { none = λ a. omega arith; least = λ a b. omega arith; some = λ a. refl; exact = λ a b. omega arith; many = λ a. omega arith }
 
-pub indicator-true : (n t : ℕ) (u : Bool) → n ≤ t → (u ≡ false → t ≡ n) → Says (indicator n u) t
+pub indicator-true : (n t : ℕ) (u : Bool) → n ≤ t → (u ≡ false → t ≡ n) → Says (indicator n u) t u
 indicator-true n t u le known = says-by n t (indicator n u) u (ℕ-discrete n 0) refl le known
 
 -- under 3 another number than 3 is possible, under 131 none is
-pub three-or-more : Says 3 3 × Says 3 4
+pub three-or-more : Says 3 3 true × Says 3 4 true
 three-or-more = (
-  record { none = λ a. omega arith; least = λ a b. omega arith; exact = λ a b. omega arith; many = λ a. omega arith },
-  record { none = λ a. omega arith; least = λ a b. omega arith; exact = λ a b. omega arith; many = λ a. omega arith },
+  record { none = λ a. omega arith; least = λ a b. omega arith; some = λ a. refl; exact = λ a b. omega arith; many = λ a. omega arith },
+  record { none = λ a. omega arith; least = λ a b. omega arith; some = λ a. refl; exact = λ a b. omega arith; many = λ a. omega arith },
 )
 
-pub three-exactly : (t : ℕ) → Says 131 t → t ≡ 3
-three-exactly t s = s .exact (omega arith) (omega arith)
+pub three-exactly : (t : ℕ) (u : Bool) → Says 131 t u → t ≡ 3
+three-exactly t u s = s .exact (omega arith) (omega arith)
 
 -- 127 is never written for a known 200
 pub many-known : indicator 200 false ≡ 255

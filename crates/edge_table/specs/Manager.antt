@@ -1,0 +1,83 @@
+-- The node and the route of document 01's edge table, and what a list of events gives on them: the rows of the table that
+-- speak of the manager are stated with these (EdgeTable). The settings are octets, so that a row starts where a user does.
+-- Assumes nothing.
+use mathlib.Core.List.{List, [], _∷_, _++_}
+use Prim.Native.Nat.{ℕ}
+use lib.ListN.{replicate}
+use Rattle.state.specs.declared.Manager.{Manager}
+use Rattle.settings.specs.Settings.{freshOf}
+use Rattle.manager.specs.declared.Answer.{Answer}
+use Rattle.manager.specs.declared.Arrival.{Arrival}
+use Rattle.manager.specs.Events.{After}
+use Rattle.ledger.specs.Event.{Event, RECEIVE, Lent}
+use Rattle.ledger.specs.Run.{runOf, Booked, booksOf, joined, ledgerFrom}
+
+-- node: address ::ffff:192.0.2.1, offset 0; route: f 0, size limit 128, no other limits, flag 0, release 4, version 3, first
+-- sequence number 7
+abbrev pub settings : List ℕ
+settings =
+    1
+    ∷ 0 ∷ 0 ∷ 0 ∷ 0 ∷ 0 ∷ 0 ∷ 0 ∷ 0 ∷ 0 ∷ 0 ∷ 0xFF ∷ 0xFF ∷ 192 ∷ 0 ∷ 2 ∷ 1
+    ∷ 0x05 ∷ 0x9F
+    ∷ 2
+    ∷ 0
+    ∷ replicate 20 0
+    ++ (0 ∷ 0 ∷ 0 ∷ 128
+    ∷ 0 ∷ 0 ∷ 0 ∷ 0
+    ∷ 0 ∷ 0 ∷ 0 ∷ 0
+    ∷ 0
+    ∷ 0x83 ∷ 0
+    ∷ 0 ∷ 0 ∷ 0 ∷ 7 ∷ [])
+
+abbrev pub manager : Manager
+manager = freshOf settings .manager
+
+abbrev pub store : List ℕ
+store = replicate 128 0xDD
+
+-- a usable record of a release, with as many octets of body
+abbrev pub release4 : Arrival
+release4 = record { mark = 0; release = 4; version = 3; extension = 0; format = 1; ts = 15 }
+
+abbrev pub release7 : Arrival
+release7 = record { mark = 0; release = 7; version = 3; extension = 2; format = 1; ts = 15 }
+
+abbrev pub receive : Arrival → ℕ → Event
+receive a body = RECEIVE 0 a [] (replicate body 0xAB)
+
+-- the events, each lent an output of so many octets 0xEE
+abbrev pub lent : ℕ → List Event → List Lent
+lent n [] = []
+lent n (e ∷ es) = record { event = e; output = replicate n 0xEE } ∷ lent n es
+
+-- what the events leave, and what the ledger says of them
+abbrev pub leaves : ℕ → List Event → List After
+leaves n es = runOf manager store (lent n es)
+
+abbrev answersIn : List After → List Answer
+answersIn [] = []
+answersIn (a ∷ rest) = a .outcome .answer ∷ answersIn rest
+
+abbrev pub answers : List Event → List Answer
+answers es = answersIn (leaves 128 es)
+
+abbrev outputsIn : List After → List (List ℕ)
+outputsIn [] = []
+outputsIn (a ∷ rest) = a .output ∷ outputsIn rest
+
+abbrev pub outputs : ℕ → List Event → List (List ℕ)
+outputs n es = outputsIn (leaves n es)
+
+abbrev booksIn : List Booked → List Answer
+booksIn [] = []
+booksIn (b ∷ bs) = b .answer ∷ booksIn bs
+
+abbrev pub booked : List Event → List Answer
+booked es = booksIn (booksOf (ledgerFrom settings) 128 (lent 128 es))
+
+abbrev filesIn : List Booked → List (List ℕ)
+filesIn [] = []
+filesIn (b ∷ bs) = joined (b .entry .closings) ∷ filesIn bs
+
+abbrev pub filed : List Event → List (List ℕ)
+filed es = filesIn (booksOf (ledgerFrom settings) 128 (lent 128 es))

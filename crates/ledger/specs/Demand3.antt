@@ -1,0 +1,182 @@
+-- DEMAND 3 of document 01, stated alone: read this file without its proof (Proof.antt).
+--
+-- In plain words. Take any settings octets that are accepted, a store of any length and content, and any list of OPEN, CLOSE,
+-- TICK and RECEIVE, refused ones included, with any clock and any output lent to each. Run the manager on the list, and keep the
+-- ledger of document 01 beside it, which is fed the settings, the store's length and each event's arguments and output length,
+-- and nothing of the manager. Then every answer is the ledger's, and 18 never comes. Each event's output keeps its length, begins
+-- with the files that the ledger closes at that event, one behind another, and its other octets are as lent: all of them if none
+-- closes or the event is refused. For each route the records received, counted in the list by the routing rule, are those in its
+-- closed files, as the reader counts them, those in its open file, as the state counts them, and those lost, counted in the list
+-- by the loss rule. The other received records stand in its closed files in order of closing and then in the open file's part of
+-- the store, in order of receipt, octet for octet. Every closed file is accepted by the reader, with the fields and records that
+-- the ledger gives. Open count, loss counters and unrouted counter in the state are the ledger's, and the accepted unrouted
+-- records of the list number the unrouted counter.
+--
+-- `freshOf`, `openOf`, `closeOf`, `tickOf` and `receiveOf`, of which `happens` and `runOf` are made, are the definitions that the
+-- contracts of the calls cite. Assumes nothing.
+use mathlib.Core.Path.{_≡_}
+use mathlib.Core.Bool.{Bool, true, false, cond, not, _&&_}
+use mathlib.Core.List.{List, [], _∷_, _++_}
+use Prim.Native.Nat.{ℕ, zero, suc, _+_, _≤_, _<_, _^_}
+use lib.Dec.{eqb}
+use lib.ListN.{length, take, drop}
+use Rattle.octets.specs.Number.{Octets}
+use Rattle.octets.specs.Splice.{splice}
+use Rattle.record.specs.Record.{Record}
+use Rattle.record.specs.Walk.{records, walkOf}
+use Rattle.cdrfile.specs.File.{File, layout}
+use Rattle.reader.specs.Reader.{readOf}
+use Rattle.roundtrip.specs.Handed.{handedBack}
+use Rattle.state.specs.declared.Route.{Route}
+use Rattle.state.specs.declared.Manager.{Manager}
+use Rattle.state.specs.Manager.{routeAt, base}
+use Rattle.settings.specs.Settings.{freshOf}
+use Rattle.manager.specs.declared.Answer.{Answer}
+use Rattle.manager.specs.declared.Arrival.{Arrival}
+use Rattle.manager.specs.Events.{After}
+use Rattle.manager.specs.Receive.{recordOf}
+use Rattle.ledger.specs.Event.{Event, OPEN, CLOSE, TICK, RECEIVE, Lent}
+use Rattle.ledger.specs.Ledger.{Ledger, Line, lineAt, Closing, Entry, routedTo, lostBy, recordsOf}
+use Rattle.ledger.specs.Run.{happens, runOf, Booked, booksOf, joined, endOf, storeAfter, ledgerAfter, ledgerFrom}
+
+-- an event as the machine can be given it: octets are below 256, a record's extension too
+abbrev pub Given : Event → Type 0
+Given (OPEN time i) = Unit {0}
+Given (CLOSE time i reason) = Unit {0}
+Given (TICK time) = Unit {0}
+Given (RECEIVE time a key body) = (a .extension < 256) × Octets key × Octets body
+
+abbrev pub AllGiven : List Lent → Type 0
+AllGiven [] = Unit {0}
+AllGiven (e ∷ es) = Given (e .event) × AllGiven es
+
+-- What the list itself says, by the rules of routing and loss on the settings (l is the fresh ledger, of which only the
+-- settings count here) and by the answers.
+
+-- *received* on the route i: routed there by an accepted RECEIVE
+abbrev pub receivedOn : Ledger → ℕ → Event → Answer → Bool
+receivedOn l i (OPEN time r) answer = false
+receivedOn l i (CLOSE time r reason) answer = false
+receivedOn l i (TICK time) answer = false
+receivedOn l i (RECEIVE time a key body) answer = eqb (answer .refusal) 0 && routedTo l a key .found && eqb (routedTo l a key .at) i
+
+-- *lost* by the loss rule
+abbrev pub lostRule : Ledger → ℕ → Event → Bool
+lostRule l i (OPEN time r) = false
+lostRule l i (CLOSE time r reason) = false
+lostRule l i (TICK time) = false
+lostRule l i (RECEIVE time a key body) = lostBy (lineAt l i .settings) a (length body)
+
+-- *unrouted*: by an accepted RECEIVE, and no route is found
+abbrev pub unroutedBy : Ledger → Event → Answer → Bool
+unroutedBy l (OPEN time r) answer = false
+unroutedBy l (CLOSE time r reason) answer = false
+unroutedBy l (TICK time) answer = false
+unroutedBy l (RECEIVE time a key body) answer = eqb (answer .refusal) 0 && not (routedTo l a key .found)
+
+abbrev pub one : Bool → ℕ
+one true = 1
+one false = 0
+
+abbrev pub received : Ledger → ℕ → List Lent → List After → ℕ
+received l i [] done = 0
+received l i (e ∷ es) [] = 0
+received l i (e ∷ es) (a ∷ done) = one (receivedOn l i (e .event) (a .outcome .answer)) + received l i es done
+
+abbrev pub lost : Ledger → ℕ → List Lent → List After → ℕ
+lost l i [] done = 0
+lost l i (e ∷ es) [] = 0
+lost l i (e ∷ es) (a ∷ done) = one (receivedOn l i (e .event) (a .outcome .answer) && lostRule l i (e .event)) + lost l i es done
+
+abbrev pub unrouted : Ledger → List Lent → List After → ℕ
+unrouted l [] done = 0
+unrouted l (e ∷ es) [] = 0
+unrouted l (e ∷ es) (a ∷ done) = one (unroutedBy l (e .event) (a .outcome .answer)) + unrouted l es done
+
+-- the records received on a route and not lost, in order of receipt
+abbrev pub placedIf : Bool → Event → List Record
+placedIf false e = []
+placedIf true (OPEN time r) = []
+placedIf true (CLOSE time r reason) = []
+placedIf true (TICK time) = []
+placedIf true (RECEIVE time a key body) = recordOf a body ∷ []
+
+abbrev pub placed : Ledger → ℕ → List Lent → List After → List Record
+placed l i [] done = []
+placed l i (e ∷ es) [] = []
+placed l i (e ∷ es) (a ∷ done) =
+    placedIf (receivedOn l i (e .event) (a .outcome .answer) && not (lostRule l i (e .event))) (e .event) ++ placed l i es done
+
+-- What the files say, as the reader reads them.
+abbrev pub counted : List File → ℕ
+counted [] = 0
+counted (f ∷ fs) = readOf (layout f) .count + counted fs
+
+abbrev pub walked : List File → List Record
+walked [] = []
+walked (f ∷ fs) = handedBack (layout f) (readOf (layout f)) .records ++ walked fs
+
+abbrev pub AllAccepted : List File → Type 0
+AllAccepted [] = Unit {0}
+AllAccepted (f ∷ fs) = ((readOf (layout f) .refusal ≡ 0) × (handedBack (layout f) (readOf (layout f)) ≡ f)) × AllAccepted fs
+
+-- the files that close on a route, in order, over what the ledger booked
+abbrev pub onRoute : ℕ → List Closing → List File
+onRoute i [] = []
+onRoute i (c ∷ cs) = cond (eqb (c .route) i) (c .file ∷ onRoute i cs) (onRoute i cs)
+
+abbrev pub closedOn : ℕ → List Booked → List File
+closedOn i [] = []
+closedOn i (b ∷ bs) = onRoute i (b .entry .closings) ++ closedOn i bs
+
+-- Each event's answer and output, beside what the ledger booked for it.
+abbrev pub Answered : List Lent → List After → List Booked → Type 0
+Answered [] [] [] = Unit {0}
+Answered [] [] (b ∷ bs) = ⊥
+Answered [] (a ∷ done) bs = ⊥
+Answered (e ∷ es) [] bs = ⊥
+Answered (e ∷ es) (a ∷ done) [] = ⊥
+Answered (e ∷ es) (a ∷ done) (b ∷ bs) =
+    ((a .outcome .answer ≡ b .answer)
+    × (a .outcome .answer .refusal ≡ 18 → ⊥)
+    × (length (joined (b .entry .closings)) ≤ length (e .output))
+    × (a .output ≡ splice (e .output) 0 (joined (b .entry .closings)))
+    × (length (a .output) ≡ length (e .output)))
+    × Answered es done bs
+
+-- the open count of a route in the state, 0 with no file open, and the octets of its open file in the store
+abbrev pub openCount : Route → ℕ
+openCount r = cond (r .«open») (r .file .count) 0
+
+abbrev pub standing : Manager → List ℕ → ℕ → List ℕ
+standing m store i = cond (routeAt m i .«open») (take (routeAt m i .file .octets) (drop (base m i) store)) []
+
+-- The claim, of a manager m and a ledger l, a store and a list of events.
+pub record Demand3 (m : Manager) (l : Ledger) (store : List ℕ) (es : List Lent) : Type 0 where
+  -- every answer and every output is the ledger's
+  pub answered : Answered es (runOf m store es) (booksOf l (length store) es)
+  -- each file belongs to the route that closes it
+  pub filed : (i : ℕ) → i < m .count → lineAt (ledgerAfter l (length store) es) i .closed ≡ closedOn i (booksOf l (length store) es)
+  -- received = closed counts + open count + lost
+  pub balance : (i : ℕ) → i < m .count
+      → received l i es (runOf m store es)
+      ≡ counted (closedOn i (booksOf l (length store) es)) + openCount (routeAt (endOf m store es) i) + lost l i es (runOf m store es)
+  -- the others stand in the files, in order, octet for octet
+  pub kept : (i : ℕ) → i < m .count
+      → (rs : List Record)
+      × (walkOf (standing (endOf m store es) (storeAfter m store es) i) ≡ records rs)
+      × (placed l i es (runOf m store es) ≡ walked (closedOn i (booksOf l (length store) es)) ++ rs)
+  -- every closed file is accepted by the reader, with the fields the ledger gives
+  pub accepted : (i : ℕ) → i < m .count → AllAccepted (closedOn i (booksOf l (length store) es))
+  -- the counters are the ledger's
+  pub counters : (i : ℕ) → i < m .count
+      → (openCount (routeAt (endOf m store es) i) ≡ length (recordsOf (lineAt (ledgerAfter l (length store) es) i)))
+      × (routeAt (endOf m store es) i .losses ≡ lineAt (ledgerAfter l (length store) es) i .losses)
+  pub unrouted-counter : endOf m store es .unrouted ≡ ledgerAfter l (length store) es .unrouted
+  pub unrouted-listed : endOf m store es .unrouted ≡ unrouted l es (runOf m store es)
+
+-- DEMAND 3: it holds of the fresh manager and the ledger of any accepted settings, any store, and any list of events.
+abbrev pub Claim : Type 0
+Claim =
+    (xs store : List ℕ) (es : List Lent) → Octets xs → freshOf xs .refusal ≡ 0 → Octets store → AllGiven es
+    → Demand3 (freshOf xs .manager) (ledgerFrom xs) store es

@@ -1,0 +1,151 @@
+-- Demand 3 (Demand3.antt) holds: each event holds (Steps and what follows it), so any list does (Claim); the books give the
+-- counts, and a closed file is right, so the reader accepts it. Assumes nothing.
+use mathlib.Core.Path.{_≡_, refl, sym, ap, _∙_, subst}
+use mathlib.Core.Bool.{Bool, true, false, cond}
+use mathlib.Core.List.{List, [], _∷_, _++_}
+use Prim.Native.Nat.{ℕ, zero, suc, _+_, _≤_, _<_}
+use native.Mathlib.Omega.{arith}
+use lib.Dec.{eqb}
+use lib.ListN.{length, take, drop}
+use Rattle.octets.specs.Number.{Octets}
+use Rattle.record.specs.declared.Tallied.{Tallied}
+use Rattle.record.specs.Record.{Record, recordsOctets}
+use Rattle.record.specs.Walk.{records, walkOf, tallied, tallyOf}
+use Rattle.record.specs.Format.{walks}
+use Rattle.cdrfile.specs.File.{File, layout, RightFile}
+use Rattle.reader.specs.declared.Contents.{Contents}
+use Rattle.reader.specs.Reader.{bodyOf, contentsOf, readOf}
+use Rattle.roundtrip.specs.Handed.{handedBack}
+use Rattle.roundtrip.specs.Accepted.{accepts}
+use Rattle.roundtrip.specs.Complete.{complete, handed-again}
+use Rattle.state.specs.declared.Route.{Route}
+use Rattle.state.specs.declared.Manager.{Manager}
+use Rattle.state.specs.Manager.{routeAt, base}
+use Rattle.settings.specs.Settings.{routesIn, managerFrom, settled, verdict, freshOf}
+use Rattle.ledger.specs.Event.{OPEN, CLOSE, TICK, RECEIVE, Lent}
+use Rattle.ledger.specs.Ledger.{Current, none, some, Line, Ledger, lineAt, recordsIn, recordsOf, Closing}
+use Rattle.ledger.specs.Run.{runOf, Booked, booksOf, endOf, storeAfter, ledgerAfter, ledgerFrom}
+use Rattle.ledger.specs.Agrees.{Agrees, AgreesLine, AgreesFile}
+use Rattle.ledger.specs.Books.{flat, held, same-length, after-same, fresh-length, received-booked, lost-booked, unrouted-booked, placed-booked, fresh-closed, fresh-records, fresh-sum, fresh-unrouted}
+use Rattle.ledger.specs.Steps.{AllRightFiles, open-holds}
+use Rattle.ledger.specs.StepClose.{close-holds}
+use Rattle.ledger.specs.StepTick.{tick-holds}
+use Rattle.ledger.specs.StepReceive.{receive-holds}
+use Rattle.ledger.specs.Claim.{AllRightBooks, Runs, EventHolds, runs}
+use Rattle.ledger.specs.Fresh.{fresh-agrees}
+use Rattle.ledger.specs.Demand3.{AllGiven, counted, walked, AllAccepted, onRoute, closedOn, openCount, standing, Demand3, Claim}
+
+-- A right file as the reader reads it.
+module _ (f : File) (r : RightFile f) where
+  read-right : readOf (layout f) ≡ contentsOf (layout f)
+  read-right = accepts (layout f) (f .records) (complete f r)
+
+  back-right : handedBack (layout f) (readOf (layout f)) ≡ f
+  back-right = ap (handedBack (layout f)) read-right ∙ handed-again f r
+
+  count-right : readOf (layout f) .count ≡ length (f .records)
+  unfolding tallyOf
+  count-right =
+      ap (λ (c : Contents). c .count) read-right
+      ∙ ap (λ (t : Tallied). t .count) (ap tallied (complete f r .walk))
+
+abbrev AllRight : List File → Type 0
+AllRight [] = Unit {0}
+AllRight (f ∷ fs) = RightFile f × AllRight fs
+
+all-counted : (fs : List File) → AllRight fs → counted fs ≡ held fs
+all-counted [] a = refl
+all-counted (f ∷ fs) a = λ i. count-right f (a .0) i + all-counted fs (a .1) i
+
+all-walked : (fs : List File) → AllRight fs → walked fs ≡ flat fs
+all-walked [] a = refl
+all-walked (f ∷ fs) a = λ i. back-right f (a .0) i .records ++ all-walked fs (a .1) i
+
+all-accepted : (fs : List File) → AllRight fs → AllAccepted fs
+all-accepted [] a = tt
+all-accepted (f ∷ fs) a = ((ap (λ (c : Contents). c .refusal) (read-right f (a .0)), back-right f (a .0)), all-accepted fs (a .1))
+
+-- the files of a route are among those that closed
+on-right : (i : ℕ) (cs : List Closing) → AllRightFiles cs → AllRight (onRoute i cs)
+on-right i [] a = tt
+on-right i (c ∷ cs) a = go (eqb (c .route) i) (on-right i cs (a .1))
+  where
+    go : (b : Bool) → AllRight (onRoute i cs) → AllRight (cond b (c .file ∷ onRoute i cs) (onRoute i cs))
+    go true rest = (a .0, rest)
+    go false rest = rest
+
+joined-right : (fs gs : List File) → AllRight fs → AllRight gs → AllRight (fs ++ gs)
+joined-right [] gs a b = b
+joined-right (f ∷ fs) gs a b = (a .0, joined-right fs gs (a .1) b)
+
+closed-right : (i : ℕ) (bs : List Booked) → AllRightBooks bs → AllRight (closedOn i bs)
+closed-right i [] a = tt
+closed-right i (b ∷ bs) a = joined-right (onRoute i (b .entry .closings)) (closedOn i bs) (on-right i (b .entry .closings) (a .0)) (closed-right i bs (a .1))
+
+-- What a line says of the state and the store.
+module _ (store : List ℕ) (b : ℕ) (r : Route) where
+  count-same : (c : Current) → AgreesFile store b r c → openCount r ≡ length (recordsIn c)
+  count-same none h = λ i. cond (h i) (r .file .count) 0
+  count-same (some f) h = (λ i. cond (h .live i) (r .file .count) 0) ∙ h .count
+
+  stands-same : (c : Current) → AgreesFile store b r c → walkOf (cond (r .«open») (take (r .file .octets) (drop b store)) []) ≡ records (recordsIn c)
+  unfolding recordsOctets
+  stands-same none h = ap walkOf (λ i. cond (h i) (take (r .file .octets) (drop b store)) []) ∙ walks [] [] tt refl
+  stands-same (some f) h =
+      ap walkOf ((λ i. cond (h .live i) (take (r .file .octets) (drop b store)) []) ∙ h .stands) ∙ walks (recordsOctets (f .records)) (f .records) (h .right) refl
+
+from-fresh : EventHolds → (xs store : List ℕ) (es : List Lent) → Octets xs → freshOf xs .refusal ≡ 0 → AllGiven es
+    → Demand3 (managerFrom xs (routesIn xs)) (ledgerFrom xs) store es
+from-fresh step xs store es o e g =
+    let m = managerFrom xs (routesIn xs) in
+    let l = ledgerFrom xs in
+    let n = length store in
+    let w = runs step m store l es (fresh-agrees xs o e store) g in
+    let bs = booksOf l n es in
+    let done = runOf m store es in
+    let end = endOf m store es in
+    let z = ledgerAfter l n es in
+    let low : (i : ℕ) → i < routesIn xs → i < end .count =
+    λ i h. omega (arith, w .agrees .count, same-length (after-same l n es), fresh-length xs) in
+    let line : (i : ℕ) → i < routesIn xs → AgreesLine (storeAfter m store es) (base end i) (routeAt end i) (lineAt z i) = λ i h. w .agrees .lines i (low i h) in
+    record {
+      answered = w .answered;
+      filed = λ i h. fresh-closed xs n es i h;
+      balance =
+          λ i h.
+          received-booked l es done bs (w .answered) i
+          ∙ fresh-sum xs n es i h
+          ∙ (λ j. sym (all-counted (closedOn i bs) (closed-right i bs (w .right))) j + sym (count-same (storeAfter m store es) (base end i) (routeAt end i) (lineAt z i .current) (line i h .file)) j + sym (lost-booked l es done bs (w .answered) i) j);
+      kept =
+          λ i h. (
+            recordsOf (lineAt z i),
+            stands-same (storeAfter m store es) (base end i) (routeAt end i) (lineAt z i .current) (line i h .file),
+            placed-booked l es done bs (w .answered) i
+                ∙ sym (fresh-records xs n es i h)
+                ∙ ap (λ (rs : List Record). rs ++ recordsOf (lineAt z i)) (sym (all-walked (closedOn i bs) (closed-right i bs (w .right)))),
+          );
+      accepted = λ i h. all-accepted (closedOn i bs) (closed-right i bs (w .right));
+      counters = λ i h. (count-same (storeAfter m store es) (base end i) (routeAt end i) (lineAt z i .current) (line i h .file), line i h .losses);
+      unrouted-counter = w .agrees .unrouted;
+      unrouted-listed = w .agrees .unrouted ∙ fresh-unrouted xs n es ∙ sym (unrouted-booked l es done bs (w .answered));
+    }
+
+-- accepted settings give this manager
+settled-fresh : (n : ℕ) (xs : List ℕ) → settled n xs .refusal ≡ 0 → settled n xs .manager ≡ managerFrom xs (routesIn xs)
+settled-fresh zero xs e = refl
+settled-fresh (suc n) xs e = absurd (omega (arith, e))
+
+fresh-manager : (xs : List ℕ) → freshOf xs .refusal ≡ 0 → freshOf xs .manager ≡ managerFrom xs (routesIn xs)
+unfolding freshOf
+fresh-manager xs e = settled-fresh (verdict xs) xs e
+
+-- each of the four events
+event : EventHolds
+event store m l a (OPEN time i) output g = open-holds a output time i
+event store m l a (CLOSE time i reason) output g = close-holds a output time i reason
+event store m l a (TICK time) output g = tick-holds a output time
+event store m l a (RECEIVE time v key body) output g = receive-holds a output time v key body g
+
+pub demand-3 : Claim
+demand-3 xs store es o e os g =
+    subst (λ (m : Manager). Demand3 m (ledgerFrom xs) store es) (sym (fresh-manager xs e)) (from-fresh event xs store es o e g)

@@ -1,0 +1,13 @@
+-- `manager::routes::opened_route` meets its contract: the wrapping sum is the definition's next number. Assumes nothing.
+use borrow.Author.Needs.{needs}
+use Rattle.manager.proofs.routes.opened_route.Statement.{statement}
+use Rattle.manager.proofs.routes.opened_route.Tie as tie
+
+wrapping-add-u32-requires : tie.Need-wrapping-add-u32-requires
+wrapping-add-u32-requires c κs = search needs
+
+returns : tie.Need-returns
+returns c = cc
+
+pub opened-route-spec : {M : Type 1} → statement M
+opened-route-spec = tie.close (tie.spec wrapping-add-u32-requires returns)

@@ -1,0 +1,44 @@
+// What every event does first, and how it refuses (document 01, Refusals).
+ghost use mathlib.Core.Path.{_≡_};
+ghost use mathlib.Core.Bool.{cond};
+ghost use mathlib.Core.List.{[]};
+ghost use Rattle.refusals.specs.Refusal.{first};
+ghost use Rattle.manager.specs.Events.{common, refused};
+use crate::Answer;
+use crate::Outcome;
+use state::Manager;
+
+// One rule of a list of refusals: its number where it applies, else what the rules behind it say.
+pub fn either(b: bool, x: u8, rest: u8) -> u8
+    ensures { λ r. ⌜ r ≡ cond b x rest ⌝ }
+{
+    if b { x } else { rest }
+}
+
+// The first of 18, 16 and 4 that applies, or 0; `store` is the store's length.
+pub fn common_refusal(m: Manager, store: usize, time: u32) -> u8
+    ensures { λ r. ⌜ r ≡ first (common m store time []) ⌝ }
+{
+    let right = state::state_right(m);
+    let regions = state::regions_of(m);
+    let late = either(52595999 < time, 4, 0);
+    let short = either(store < regions, 16, late);
+    either(!right, 18, short)
+}
+
+// A refusal: its number, and zeros but for the octets that 17 says are needed. The state stays.
+pub fn refuse(m: Manager, number: u8, needed: usize) -> Outcome
+    ensures { λ r. ⌜ r ≡ refused number needed m ⌝ }
+{
+    let octets = if number == 17 { needed } else { 0 };
+    Outcome {
+        answer: Answer {
+            refusal: number,
+            outcome: 0,
+            route: 0,
+            files: 0,
+            octets: octets,
+        },
+        manager: m,
+    }
+}

@@ -1,0 +1,47 @@
+-- `receiving::pass::lost` meets its contract: its two ways out are the definition's. Assumes nothing.
+use borrow.Author.Needs.{needs}
+use mathlib.Core.Path.{sym, _∙_}
+use borrow.Author.Tests.{eq-eqb, ne-eqb}
+use Rattle.receiving.proofs.pass.lost.Statement.{statement}
+use Rattle.receiving.proofs.pass.lost.Tie as tie
+
+mul-r : tie.Need-mul-r
+mul-r c = search needs
+
+element-copy-out-r : tie.Need-element-copy-out-r
+element-copy-out-r c = search needs
+
+refuse-requires : tie.Need-refuse-requires
+refuse-requires c κs = search needs
+
+returns : tie.Need-returns
+returns c = c .refuse .ensures ∙ sym (rw (eq-eqb _ _ (c .before .if1 .taken)))
+
+lost-route-requires : tie.Need-lost-route-requires
+lost-route-requires c κs = search needs
+
+mul-c : tie.Need-mul-c
+mul-c c = search needs
+
+element-set-from-c : tie.Need-element-set-from-c
+element-set-from-c c = search needs
+
+cast-t17 : tie.Need-cast-t17
+cast-t17 c = search needs
+
+returns-2 : tie.Need-returns-2
+returns-2 c = rw (ne-eqb _ _ (c .before .if1 .left)) (cc)
+
+pub lost-spec : {M : Type 1} → statement M
+lost-spec =
+    tie.close
+    (tie.spec
+    mul-r
+    element-copy-out-r
+    refuse-requires
+    returns
+    lost-route-requires
+    mul-c
+    element-set-from-c
+    cast-t17
+    returns-2)

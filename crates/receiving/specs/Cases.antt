@@ -1,0 +1,235 @@
+-- The cases of `receiveOf` (document 01, Routing and loss, The events; Refusals): refused by 18, 16 or 4, by 5, or one of the
+-- three outcomes, each with its own refusal. And what it says of an arrival that it passed 5 and was routed. Assumes nothing.
+use mathlib.Core.Path.{_≡_, refl, sym, ap, _∙_}
+use mathlib.Core.Bool.{Bool, true, false, cond, not, _&&_, _||_, true≢false, false≢true}
+use mathlib.Core.List.{List, [], _∷_}
+use Prim.Native.Nat.{ℕ, _≤_, _<_}
+use native.Mathlib.Omega.{arith}
+use lib.Dec.{eqb, ltb}
+use lib.ListN.{length}
+use borrow.Author.Tests.{ltb-false, le-ltb, eq-eqb, not-false}
+use Rattle.refusals.specs.Refusal.{Rule, _when_, first, passed, or-false}
+use Rattle.state.specs.declared.Manager.{Manager}
+use Rattle.state.specs.declared.Routed.{Routed}
+use Rattle.state.specs.Manager.{routeAt, regions, effective}
+use Rattle.state.specs.Routing.{nobody, routeOf}
+use Rattle.state.specs.Longest.{longest-found}
+use Rattle.state.specs.Bounds.{stateRight}
+use Rattle.manager.specs.declared.Arrival.{Arrival}
+use Rattle.manager.specs.declared.Outcome.{Outcome}
+use Rattle.manager.specs.Rules.{wrongFields, routedTo}
+use Rattle.manager.specs.Events.{After, after, refused, settled, common}
+use Rattle.manager.specs.Receive.{isLost, needed, countersFull, taken, placedSize, unrouted, lostAt, placedAt, receiveOf}
+
+-- the fields of a record that can be placed are within their widths
+pub record Usable (a : Arrival) : Type 0 where
+  pub release : a .release < 8
+  pub version : a .version < 32
+  pub format : a .format < 8
+  pub ts : a .ts < 32
+
+-- with mark 1 they are not judged
+abbrev pub UsableUnlessMarked : Arrival → Type 0
+UsableUnlessMarked a = (a .mark ≡ 1 → ⊥) → Usable a
+
+-- an arrival that passed 5 and is not of mark 2
+pub usable : (a : Arrival) (key : ℕ) → wrongFields a key ≡ false → (a .mark ≡ 2 → ⊥) → UsableUnlessMarked a
+usable a key e two one =
+    let wide = ltb 7 (a .release) || ltb 7 (a .format) || ltb 31 (a .version) || ltb 31 (a .ts) || (ltb (a .release) 7 && not (eqb (a .extension) 0)) in
+    let s = or-false (ltb 2 (a .mark) || (ltb (a .mark) 2 && ltb 20 key)) (eqb (a .mark) 0 && wide) e in
+    let m = or-false (ltb 2 (a .mark)) (ltb (a .mark) 2 && ltb 20 key) (s .0) in
+    let small = ltb-false 2 (a .mark) (m .0) in
+    let zero : a .mark ≡ 0 = omega arith in
+    let w : wide ≡ false = rw (eq-eqb (a .mark) 0 zero) at (s .1) in
+    let x = or-false (ltb 7 (a .release) || ltb 7 (a .format) || ltb 31 (a .version) || ltb 31 (a .ts)) (ltb (a .release) 7 && not (eqb (a .extension) 0)) w in
+    let t = or-false (ltb 7 (a .release) || ltb 7 (a .format) || ltb 31 (a .version)) (ltb 31 (a .ts)) (x .0) in
+    let v = or-false (ltb 7 (a .release) || ltb 7 (a .format)) (ltb 31 (a .version)) (t .0) in
+    let f = or-false (ltb 7 (a .release)) (ltb 7 (a .format)) (v .0) in
+    record {
+      release = omega (arith, ltb-false 7 (a .release) (f .0));
+      version = omega (arith, ltb-false 31 (a .version) (v .1));
+      format = omega (arith, ltb-false 7 (a .format) (f .1));
+      ts = omega (arith, ltb-false 31 (a .ts) (t .1));
+    }
+
+-- a routed record has no mark 2, and its route is configured
+pub routed : (m : Manager) (a : Arrival) (key : List ℕ) {to : Routed} → to ≡ routedTo m a key → to .found ≡ true
+    → (a .mark ≡ 2 → ⊥) × (to .at < m .count)
+routed m a key r f =
+    let g = go (eqb (a .mark) 2) refl (ap (λ (q : Routed). q .found) (sym r) ∙ f) in
+    (g .0, omega (arith, g .1, ap (λ (q : Routed). q .at) r))
+  where
+    go : (b : Bool) → eqb (a .mark) 2 ≡ b → cond b nobody (routeOf m key) .found ≡ true
+        → (a .mark ≡ 2 → ⊥) × (cond b nobody (routeOf m key) .at < m .count)
+    go true p e = absurd (false≢true e)
+    go false p e = (λ z. true≢false (sym (eq-eqb _ _ z) ∙ p), longest-found m key e .below)
+
+-- a record that is not lost has no mark 1
+pub unmarked : (m : Manager) (a : Arrival) (i body : ℕ) → isLost m a i body ≡ false → a .mark ≡ 1 → ⊥
+unmarked m a i body e z = let f : true ≡ false = rw (eq-eqb _ _ z) at e in true≢false f
+
+-- the three outcomes, each with its own refusal: 19 for a counter that would rise, 17 for the files that close
+abbrev pub unroutedOr : Manager → ℕ → Outcome
+unroutedOr m t =
+    cond (eqb (m .unrouted) 4294967295) (refused 19 0 m) (unrouted m [] [] t .outcome)
+
+abbrev pub lostOr : Manager → ℕ → ℕ → Outcome
+lostOr m t i = cond (eqb (routeAt m i .losses) 4294967295) (refused 19 0 m) (lostAt m [] [] t i .outcome)
+
+abbrev pub placedOr : Manager → List ℕ → List ℕ → ℕ → Arrival → List ℕ → ℕ → After
+placedOr m store output t a body i =
+    cond (ltb (length output) (placedSize (routeAt m i) a (length body) t))
+    (after (refused 17 (placedSize (routeAt m i) a (length body) t) m) store output)
+    (placedAt m store output t a body i)
+
+-- The shape of the definition, over its conditions: first 18, 16 and 4.
+module _ (b18 b16 b4 : Bool) where
+  abbrev three : List Rule → List Rule
+  three rules = (18 when b18) ∷ (16 when b16) ∷ (4 when b4) ∷ rules
+
+  three-passed : first (three []) ≡ 0 → (b18 ≡ false) × (b16 ≡ false) × (b4 ≡ false)
+  three-passed e =
+      let p = passed 17 b18 ((16 when b16) ∷ (4 when b4) ∷ []) e in
+      let q = passed 15 b16 ((4 when b4) ∷ []) (p .1) in
+      let r = passed 3 b4 [] (q .1) in
+      (p .0, q .0, r .0)
+
+module _ (rules : List Rule) (needed : ℕ) (m : Manager) (store output : List ℕ) (done : After) where
+  three-refused : (b18 b16 b4 : Bool) {n : ℕ} → n ≡ first (three b18 b16 b4 []) → (n ≡ 0 → ⊥)
+      → after (refused n 0 m) store output ≡ settled (first (three b18 b16 b4 rules)) needed m store output done
+  three-refused true b16 b4 e some = ap (λ (k : ℕ). after (refused k 0 m) store output) e
+  three-refused false true b4 e some = ap (λ (k : ℕ). after (refused k 0 m) store output) e
+  three-refused false false true e some = ap (λ (k : ℕ). after (refused k 0 m) store output) e
+  three-refused false false false e some = absurd (some e)
+
+  three-left : {b18 b16 b4 : Bool} → (b18 ≡ false) × (b16 ≡ false) × (b4 ≡ false)
+      → settled (first rules) needed m store output done ≡ settled (first (three b18 b16 b4 rules)) needed m store output done
+  three-left e = sym (rw (e .0, e .1, e .2))
+
+-- Then 5.
+module _ (rules : List Rule) (needed : ℕ) (m : Manager) (store output : List ℕ) (done : After) where
+  five-refused : {b5 : Bool} → b5 ≡ true → after (refused 5 0 m) store output ≡ settled (first ((5 when b5) ∷ rules)) needed m store output done
+  five-refused e = sym (rw e)
+
+  five-left : {b5 : Bool} → b5 ≡ false
+      → settled (first rules) needed m store output done ≡ settled (first ((5 when b5) ∷ rules)) needed m store output done
+  five-left e = sym (rw e)
+
+-- Behind them 19 and 17, by whether a record is found a route, and lost. `u` and `l` say that the counter of unrouted
+-- records, or of the route's losses, is at its end.
+module _ (found lost u l : Bool) (size : ℕ) (m : Manager) (store output : List ℕ) (x y z : After) where
+  abbrev last-two : List Rule
+  last-two = (19 when cond found (lost && l) u) ∷ (17 when ltb (length output) (cond (found && not lost) size 0)) ∷ []
+
+  abbrev behind : After
+  behind =
+      settled (first last-two) (cond (found && not lost) size 0) m store output (cond found (cond lost x y) z)
+
+module _ (size : ℕ) (m : Manager) (store output : List ℕ) (x y z : After) where
+  not-found : (lost u l : Bool) (o : Outcome) → z ≡ after o store output → {found : Bool} → found ≡ false
+      → after (cond u (refused 19 0 m) o) store output ≡ behind found lost u l size m store output x y z
+  not-found lost u l o e f = go u ∙ ap (λ (b : Bool). behind b lost u l size m store output x y z) (sym f)
+    where
+      go : (u : Bool) → after (cond u (refused 19 0 m) o) store output ≡ behind false lost u l size m store output x y z
+      go true = refl
+      go false = sym (rw (le-ltb (length output) 0 (omega arith)) e)
+
+  found-lost : (u l : Bool) (o : Outcome) → x ≡ after o store output → {found lost : Bool} → found ≡ true → lost ≡ true
+      → after (cond l (refused 19 0 m) o) store output ≡ behind found lost u l size m store output x y z
+  found-lost u l o e f t = go l ∙ (λ i. behind (sym f i) (sym t i) u l size m store output x y z)
+    where
+      go : (l : Bool) → after (cond l (refused 19 0 m) o) store output ≡ behind true true u l size m store output x y z
+      go true = refl
+      go false = sym (rw (le-ltb (length output) 0 (omega arith)) e)
+
+  found-placed : (u l : Bool) {found lost : Bool} → found ≡ true → lost ≡ false
+      → cond (ltb (length output) size) (after (refused 17 size m) store output) y ≡ behind found lost u l size m store output x y z
+  found-placed u l f t = go (ltb (length output) size) refl ∙ (λ i. behind (sym f i) (sym t i) u l size m store output x y z)
+    where
+      go : (b : Bool) → ltb (length output) size ≡ b → cond b (after (refused 17 size m) store output) y ≡ behind true false u l size m store output x y z
+      go true e = sym (rw e)
+      go false e = sym (rw e)
+
+module _ (m : Manager) (store output : List ℕ) (time : ℕ) (a : Arrival) (key body : List ℕ) where
+  abbrev octets : ℕ
+  octets = needed m a key (length body) (effective m time)
+
+  abbrev from19 : List Rule
+  from19 = (19 when countersFull m a key (length body)) ∷ (17 when ltb (length output) octets) ∷ []
+
+  abbrev from5 : List Rule
+  from5 = (5 when wrongFields a (length key)) ∷ from19
+
+  abbrev done : After
+  done = taken m store output (effective m time) a key body
+
+  -- refused by 18, 16 or 4
+  pub receive-common : {n : ℕ} → n ≡ first (common m (length store) time []) → (n ≡ 0 → ⊥)
+      → after (refused n 0 m) store output ≡ receiveOf m store output time a key body
+  unfolding receiveOf
+  receive-common e some =
+      three-refused from5 octets m store output done (not (stateRight m)) (ltb (length store) (regions m)) (ltb 52595999 time) e some
+
+  module _ (p : first (common m (length store) time []) ≡ 0) where
+    facts : (not (stateRight m) ≡ false) × (ltb (length store) (regions m) ≡ false) × (ltb 52595999 time ≡ false)
+    facts = three-passed (not (stateRight m)) (ltb (length store) (regions m)) (ltb 52595999 time) p
+
+    pub state-right : stateRight m ≡ true
+    state-right = not-false (stateRight m) (facts .0)
+
+    pub long-store : regions m ≤ length store
+    long-store = ltb-false (length store) (regions m) (facts .1)
+
+    pub right-time : time ≤ 52595999
+    right-time = ltb-false 52595999 time (facts .2)
+
+    common-passed : settled (first from5) octets m store output done ≡ receiveOf m store output time a key body
+    unfolding receiveOf
+    common-passed = three-left from5 octets m store output done facts
+
+    -- refused by 5
+    pub receive-wrong : wrongFields a (length key) ≡ true → after (refused 5 0 m) store output ≡ receiveOf m store output time a key body
+    receive-wrong e = five-refused from19 octets m store output done e ∙ common-passed
+
+    module _ (right : wrongFields a (length key) ≡ false) where
+      -- what is left of the definition behind 5, for the route that was found
+      abbrev size : Routed → ℕ
+      size to = placedSize (routeAt m (to .at)) a (length body) (effective m time)
+
+      abbrev lose : Routed → After
+      lose to = lostAt m store output (effective m time) (to .at)
+
+      abbrev put : Routed → After
+      put to = placedAt m store output (effective m time) a body (to .at)
+
+      abbrev pass : After
+      pass = unrouted m store output (effective m time)
+
+      abbrev u : Bool
+      u = eqb (m .unrouted) 4294967295
+
+      abbrev l : Routed → Bool
+      l to = eqb (routeAt m (to .at) .losses) 4294967295
+
+      abbrev left : Routed → After
+      left to = behind (to .found) (isLost m a (to .at) (length body)) u (l to) (size to) m store output (lose to) (put to) pass
+
+      left-of : {to : Routed} → to ≡ routedTo m a key → left to ≡ receiveOf m store output time a key body
+      left-of r = ap left r ∙ five-left from19 octets m store output done right ∙ common-passed
+
+      pub receive-unrouted : {to : Routed} → to ≡ routedTo m a key → to .found ≡ false
+          → after (unroutedOr m (effective m time)) store output ≡ receiveOf m store output time a key body
+      receive-unrouted {to} r f =
+          not-found (size to) m store output (lose to) (put to) pass (isLost m a (to .at) (length body)) u (l to)
+          (unrouted m [] [] (effective m time) .outcome) refl f
+          ∙ left-of r
+
+      module _ {to : Routed} (r : to ≡ routedTo m a key) (f : to .found ≡ true) where
+        pub receive-lost : isLost m a (to .at) (length body) ≡ true
+            → after (lostOr m (effective m time) (to .at)) store output ≡ receiveOf m store output time a key body
+        receive-lost e =
+            found-lost (size to) m store output (lose to) (put to) pass u (l to) (lostAt m [] [] (effective m time) (to .at) .outcome) refl f e ∙ left-of r
+
+        pub receive-placed : isLost m a (to .at) (length body) ≡ false
+            → placedOr m store output (effective m time) a body (to .at) ≡ receiveOf m store output time a key body
+        receive-placed e = found-placed (size to) m store output (lose to) (put to) pass u (l to) f e ∙ left-of r

@@ -1,0 +1,4 @@
+pub mod Cases
+pub mod Plan
+pub mod Files
+pub mod Made
