@@ -1,11 +1,18 @@
-//! The other-language side of Leveehum: a second reader and writer of TS 32.297 files, the proved
-//! ones beside it, and the files and inputs on which the two are compared.
+//! The other-language side of Leveehum: a second reader and writer of TS 32.297 files and a plain
+//! manager, the proved ones beside them, and the files, inputs and scripts on which they are
+//! compared.
 
+pub mod audit;
 pub mod draft;
 pub mod fields;
 pub mod files;
+pub mod gate;
 pub mod inputs;
+pub mod manager;
 #[cfg(feature = "proved")]
 pub mod proved;
 pub mod random;
+pub mod scripts;
 pub mod second;
+pub mod settings;
+pub mod timing;

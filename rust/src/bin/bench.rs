@@ -6,11 +6,9 @@ use leveehum::fields::Release;
 use leveehum::proved;
 use leveehum::random::Random;
 use leveehum::second::{self, Contents, LONGEST_FILE};
+use leveehum::timing::{best_of_both, RUNS};
 use std::hint::black_box;
-use std::time::Instant;
 
-const RUNS: usize = 300;
-const WARM_UP: usize = 20;
 /// Steps in one run: a single one is too short for the clock.
 const STEPS: usize = 10_000;
 
@@ -94,26 +92,6 @@ fn time_steps(case: &str, file: &[u8], body: usize) {
         );
         print_case(&format!("step at the {name}, {case}"), pair, STEPS);
     }
-}
-
-/// The best time of each, in nanoseconds; they take turns, so that both meet the same machine.
-fn best_of_both(mut proved: impl FnMut(), mut baseline: impl FnMut()) -> [f64; 2] {
-    for _ in 0..WARM_UP {
-        proved();
-        baseline();
-    }
-    let mut best = [f64::INFINITY; 2];
-    for _ in 0..RUNS {
-        best[0] = best[0].min(nanoseconds(&mut proved));
-        best[1] = best[1].min(nanoseconds(&mut baseline));
-    }
-    best
-}
-
-fn nanoseconds(run: &mut impl FnMut()) -> f64 {
-    let start = Instant::now();
-    run();
-    start.elapsed().as_nanos() as f64
 }
 
 fn print_case(case: &str, [proved, baseline]: [f64; 2], times: usize) {

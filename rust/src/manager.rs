@@ -1,0 +1,1212 @@
+//! A plain manager of CDR files: settings, routing, the four events, the store and the closed
+//! files. Written in safe Rust from document 01, and from nothing of the proved code.
+
+#![forbid(unsafe_code)]
+
+use crate::second::{self, EXTENDED, FIXED, LAST_MINUTE, LONGEST_FILE, RESERVED, WIDEST_OFFSET};
+
+/// The most routes that settings may have.
+pub const MOST_ROUTES: usize = 8;
+/// The most octets of a filter, and of a key that is to be trusted.
+pub const LONGEST_FILTER: usize = 20;
+/// The least size limit of a route.
+pub const LEAST_LIMIT: usize = 128;
+/// Octets of the settings of a node and of a route, their kinds included.
+pub const NODE_OCTETS: usize = 1 + NODE_BODY;
+pub const ROUTE_OCTETS: usize = 1 + ROUTE_BODY;
+/// The route in the answer to an event that has none.
+pub const NO_ROUTE: u8 = 255;
+
+const NODE_KIND: u8 = 1;
+const NODE_BODY: usize = 18;
+const ROUTE_KIND: u8 = 2;
+const ROUTE_BODY: usize = 40;
+
+/// The closure reasons that the manager itself has.
+const TOO_LONG: u8 = 1;
+const TOO_OLD: u8 = 2;
+const FULL: u8 = 3;
+const OTHER_FORMAT: u8 = 5;
+
+/// What an accepted event did.
+#[derive(Clone, Copy, Debug, PartialEq, Eq)]
+pub enum Outcome {
+    Opened = 1,
+    Placed,
+    Lost,
+    Unrouted,
+    Closed,
+    Ticked,
+}
+
+/// The answer to an accepted event.
+#[derive(Clone, Copy, Debug, PartialEq, Eq)]
+pub struct Accepted {
+    pub outcome: Outcome,
+    /// The route's number, or `NO_ROUTE`.
+    pub route: u8,
+    /// How many files were closed, and their octets in the output.
+    pub files: u8,
+    pub octets: usize,
+}
+
+/// An event's answer; refused, it is the refusal's number and the needed octets (0 but for 17).
+pub type Answer = Result<Accepted, (u8, usize)>;
+
+/// What RECEIVE carries beside the time: its numbers have room for more than is right.
+#[derive(Clone, Copy, Debug, Default, PartialEq, Eq)]
+pub struct Arrival<'a> {
+    pub mark: u32,
+    pub key: &'a [u8],
+    pub release: u32,
+    pub version: u32,
+    pub extension: u8,
+    pub format: u32,
+    pub ts: u32,
+    pub body: &'a [u8],
+}
+
+/// What may be seen of a route.
+#[derive(Clone, Copy, Debug, PartialEq, Eq)]
+pub struct RouteState {
+    pub is_open: bool,
+    /// The records of the open file, 0 with none open.
+    pub count: u32,
+    /// Known losses and the note since its last file closed.
+    pub losses: u32,
+    pub note: bool,
+    /// The sequence number of the file that it opens next.
+    pub next: u32,
+    /// Octets that the open file is short of the size limit; without one, those of an empty file.
+    pub spare: usize,
+}
+
+/// A node with its routes, their open files and counters. The records of the open files are in a
+/// store that each event is lent.
+#[derive(Clone, Debug, PartialEq, Eq)]
+pub struct Manager {
+    node: Node,
+    routes: Vec<Route>,
+    /// The octets of all regions of the store.
+    regions: usize,
+    /// The effective time of the last accepted event.
+    last: u32,
+    unrouted: u32,
+}
+
+#[derive(Clone, Copy, Debug, PartialEq, Eq)]
+struct Node {
+    address: [u8; 20],
+    /// Minutes from UTC.
+    offset: i64,
+}
+
+#[derive(Clone, Debug, PartialEq, Eq)]
+struct Route {
+    filter: [u8; LONGEST_FILTER],
+    filter_octets: usize,
+    /// The most octets of a file.
+    limit: usize,
+    /// The most minutes that a file is open, and the most records that it has; 0 is no limit.
+    age: u32,
+    most: u32,
+    /// Whether a file has only one release and version.
+    one_release: bool,
+    /// The release and version of a file without records.
+    release: Rank,
+    /// Where its region of the store begins.
+    region: usize,
+    next: u32,
+    losses: u32,
+    note: bool,
+    file: Option<OpenFile>,
+}
+
+#[derive(Clone, Copy, Debug, PartialEq, Eq)]
+struct OpenFile {
+    sequence: u32,
+    opened: u32,
+    appended: u32,
+    high: Rank,
+    low: Rank,
+    /// The records' format; it says nothing when the count is 0.
+    format: u8,
+    count: u32,
+    /// The records' octets, which stand from the region's start.
+    octets: usize,
+}
+
+/// A release and version in the 16 bits that they have in all, so that their order is that of the
+/// numbers: by release, then extension, then version.
+#[derive(Clone, Copy, Debug, PartialEq, Eq, PartialOrd, Ord)]
+struct Rank(u16);
+
+impl Rank {
+    /// None if a part is beyond its range, or a release below 7 has an extension.
+    fn new(release: u32, extension: u8, version: u32) -> Option<Self> {
+        let has_extension = release == u32::from(EXTENDED);
+        let in_range = release <= 7 && version <= 31 && (has_extension || extension == 0);
+        let rank = release << 13 | u32::from(extension) << 5 | version;
+        in_range.then_some(Self(rank as u16))
+    }
+
+    /// Whether an extension octet is present.
+    fn is_extended(self) -> bool {
+        self.0 >> 13 == u16::from(EXTENDED)
+    }
+
+    fn extension(self) -> u8 {
+        (self.0 >> 5) as u8
+    }
+
+    /// The octet of release and version.
+    fn octet(self) -> u8 {
+        (self.0 >> 8 & 0xE0 | self.0 & 31) as u8
+    }
+}
+
+/// A usable record, its fields in range.
+#[derive(Clone, Copy)]
+struct Record<'a> {
+    release: Rank,
+    format: u8,
+    ts: u8,
+    body: &'a [u8],
+}
+
+impl Record<'_> {
+    /// Octets of header and body.
+    fn octets(&self) -> usize {
+        4 + usize::from(self.release.is_extended()) + self.body.len()
+    }
+
+    /// Writes the record to the start of its place in the store.
+    fn write(&self, place: &mut [u8]) {
+        let [upper, lower] = (self.body.len() as u16).to_be_bytes();
+        let (header, mut rest) = place.split_at_mut(4);
+        header.copy_from_slice(&[
+            upper,
+            lower,
+            self.release.octet(),
+            self.format << 5 | self.ts,
+        ]);
+        if self.release.is_extended() {
+            rest[0] = self.release.extension();
+            rest = &mut rest[1..];
+        }
+        rest[..self.body.len()].copy_from_slice(self.body);
+    }
+}
+
+impl Manager {
+    /// The fresh manager of these settings, or refusal 1, 2 or 3.
+    pub fn load(settings: &[u8]) -> Result<Self, u8> {
+        let (node, routes) = blocks(settings).ok_or(1)?;
+        let node = Node::new(node).ok_or(2)?;
+        let mut regions = 0;
+        let mut route = |body| {
+            let route = Route::new(body, regions)?;
+            regions += route.limit;
+            Some(route)
+        };
+        let routes: Option<Vec<_>> = routes.into_iter().map(&mut route).collect();
+        let routes = routes.ok_or(2)?;
+        let mut filters: Vec<&[u8]> = routes.iter().map(Route::filter).collect();
+        filters.sort_unstable();
+        if filters.windows(2).any(|pair| pair[0] == pair[1]) {
+            return Err(3);
+        }
+        Ok(Self {
+            node,
+            routes,
+            regions,
+            last: 0,
+            unrouted: 0,
+        })
+    }
+
+    /// Opens an empty file.
+    pub fn open(&mut self, store: &[u8], time: u32, route: u32) -> Answer {
+        let now = self.effective(store, time)?;
+        let index = self.configured(route)?;
+        let route = &mut self.routes[index];
+        if route.file.is_some() {
+            return Err((14, 0));
+        }
+        let file = route.empty_file(now);
+        route.hold(file);
+        self.last = now;
+        Ok(accepted(Outcome::Opened, index, None))
+    }
+
+    /// Closes a file by hand or by the system around: with reason 0, 4 or 128 to 131.
+    pub fn close(
+        &mut self,
+        store: &[u8],
+        output: &mut [u8],
+        time: u32,
+        route: u32,
+        reason: u32,
+    ) -> Answer {
+        let now = self.effective(store, time)?;
+        let index = self.configured(route)?;
+        let reason = match reason {
+            0 | 4 | 128..=131 => reason as u8,
+            _ => return Err((7, 0)),
+        };
+        let octets = self.routes[index].close(&self.node, reason, store, output)?;
+        self.last = now;
+        Ok(accepted(Outcome::Closed, index, Some(octets)))
+    }
+
+    /// Closes the files that have reached their open-time limit.
+    pub fn tick(&mut self, store: &[u8], output: &mut [u8], time: u32) -> Answer {
+        let now = self.effective(store, time)?;
+        let due = |route: &&mut Route| route.is_due(now);
+        let needed = self.routes.iter_mut().filter(due);
+        let needed = needed.filter_map(|route| route.file_octets()).sum();
+        if needed > output.len() {
+            return Err((17, needed));
+        }
+        let (mut files, mut octets) = (0, 0);
+        for route in self.routes.iter_mut().filter(due) {
+            octets += route.close(&self.node, TOO_OLD, store, &mut output[octets..])?;
+            files += 1;
+        }
+        self.last = now;
+        Ok(Accepted {
+            outcome: Outcome::Ticked,
+            route: NO_ROUTE,
+            files,
+            octets,
+        })
+    }
+
+    /// Takes a record in: it is placed, lost or unrouted.
+    pub fn receive(
+        &mut self,
+        store: &mut [u8],
+        output: &mut [u8],
+        time: u32,
+        arrival: &Arrival,
+    ) -> Answer {
+        let now = self.effective(store, time)?;
+        let usable = arrival.usable().ok_or((5, 0))?;
+        let Some(index) = self.route_of(arrival) else {
+            return self.miss(now);
+        };
+        let route = &mut self.routes[index];
+        let placed = match usable {
+            Some(record) if route.holds_alone(&record) => {
+                let octets = route.place(&self.node, store, output, now, &record)?;
+                accepted(Outcome::Placed, index, octets)
+            }
+            _ => {
+                route.losses = route.losses.checked_add(1).ok_or((19, 0))?;
+                accepted(Outcome::Lost, index, None)
+            }
+        };
+        self.last = now;
+        Ok(placed)
+    }
+
+    /// The octets that a store must have.
+    pub fn store_octets(&self) -> usize {
+        self.regions
+    }
+
+    /// The effective time of the last accepted event.
+    pub fn last(&self) -> u32 {
+        self.last
+    }
+
+    /// How many records were unrouted.
+    pub fn unrouted(&self) -> u32 {
+        self.unrouted
+    }
+
+    /// The routes in their order.
+    pub fn routes(&self) -> impl ExactSizeIterator<Item = RouteState> + '_ {
+        self.routes.iter().map(Route::state)
+    }
+
+    /// The event's effective time, if the store has all regions and the time is in range.
+    fn effective(&self, store: &[u8], time: u32) -> Result<u32, (u8, usize)> {
+        if store.len() < self.regions {
+            return Err((16, 0));
+        }
+        if time > LAST_MINUTE {
+            return Err((4, 0));
+        }
+        Ok(time.max(self.last))
+    }
+
+    fn configured(&self, route: u32) -> Result<usize, (u8, usize)> {
+        let index = route as usize;
+        (index < self.routes.len()).then_some(index).ok_or((6, 0))
+    }
+
+    /// The route with the longest filter that is a prefix of the key, if the key is to be trusted.
+    fn route_of(&self, arrival: &Arrival) -> Option<usize> {
+        if arrival.mark == 2 {
+            return None;
+        }
+        let routes = self.routes.iter().enumerate();
+        routes
+            .filter(|(_, route)| arrival.key.starts_with(route.filter()))
+            .max_by_key(|(_, route)| route.filter_octets)
+            .map(|(index, _)| index)
+    }
+
+    /// Counts an unrouted record: every route might have been its.
+    fn miss(&mut self, now: u32) -> Answer {
+        self.unrouted = self.unrouted.checked_add(1).ok_or((19, 0))?;
+        for route in &mut self.routes {
+            route.note = true;
+        }
+        self.last = now;
+        Ok(accepted(Outcome::Unrouted, usize::from(NO_ROUTE), None))
+    }
+}
+
+/// The answer to an event on one route, with the octets of the file that it closed.
+fn accepted(outcome: Outcome, route: usize, closed: Option<usize>) -> Accepted {
+    Accepted {
+        outcome,
+        route: route as u8,
+        files: u8::from(closed.is_some()),
+        octets: closed.unwrap_or(0),
+    }
+}
+
+impl<'a> Arrival<'a> {
+    /// The record if its body is usable, `None` in it if not; `None` if refused with 5.
+    fn usable(&self) -> Option<Option<Record<'a>>> {
+        if self.mark < 2 && self.key.len() > LONGEST_FILTER {
+            return None;
+        }
+        match self.mark {
+            0 => self.record().map(Some),
+            1 | 2 => Some(None),
+            _ => None,
+        }
+    }
+
+    fn record(&self) -> Option<Record<'a>> {
+        let release = Rank::new(self.release, self.extension, self.version)?;
+        (self.format <= 7 && self.ts <= 31).then_some(Record {
+            release,
+            format: self.format as u8,
+            ts: self.ts as u8,
+            body: self.body,
+        })
+    }
+}
+
+impl Node {
+    fn new(body: &[u8; NODE_BODY]) -> Option<Self> {
+        let (octets, bias) = body.split_at(16);
+        let mut address = [0xFF; 20];
+        address[4..].copy_from_slice(octets);
+        let bias = i64::from(u16::from_be_bytes([bias[0], bias[1]]));
+        (bias <= 2 * WIDEST_OFFSET).then_some(Self {
+            address,
+            offset: bias - WIDEST_OFFSET,
+        })
+    }
+
+    /// A minute in this node's local time.
+    fn stamp(&self, minutes: u32) -> [u8; 4] {
+        second::timestamp(minutes, self.offset).expect("both are kept in range")
+    }
+}
+
+impl Route {
+    /// A route of these settings if each is in its range.
+    fn new(body: &[u8; ROUTE_BODY], region: usize) -> Option<Self> {
+        let word =
+            |at: usize| u32::from_be_bytes([body[at], body[at + 1], body[at + 2], body[at + 3]]);
+        let (filter_octets, limit) = (usize::from(body[0]), word(21) as usize);
+        let flag = body[33];
+        let release = Rank::new(u32::from(body[34] >> 5), body[35], u32::from(body[34] & 31))?;
+        let mut filter = [0; LONGEST_FILTER];
+        filter.copy_from_slice(&body[1..21]);
+        let in_range = filter.get(filter_octets..)?.iter().all(|&octet| octet == 0)
+            && (LEAST_LIMIT..=LONGEST_FILE).contains(&limit)
+            && flag <= 1;
+        in_range.then_some(Self {
+            filter,
+            filter_octets,
+            limit,
+            age: word(25),
+            most: word(29),
+            one_release: flag == 1,
+            release,
+            region,
+            next: word(36),
+            losses: 0,
+            note: false,
+            file: None,
+        })
+    }
+
+    fn filter(&self) -> &[u8] {
+        &self.filter[..self.filter_octets]
+    }
+
+    /// The octets of a file of this route: its header has one for each release 7.
+    fn octets_of(&self, high: Rank, low: Rank, records: usize) -> usize {
+        let extensions = usize::from(high.is_extended()) + usize::from(low.is_extended());
+        FIXED + self.filter_octets + extensions + records
+    }
+
+    /// The open file's octets.
+    fn file_octets(&self) -> Option<usize> {
+        let file = self.file.as_ref()?;
+        Some(self.octets_of(file.high, file.low, file.octets))
+    }
+
+    /// Whether the open file's age has reached its limit.
+    fn is_due(&self, now: u32) -> bool {
+        let reached = |file: &OpenFile| self.age > 0 && now - file.opened >= self.age;
+        self.file.as_ref().is_some_and(reached)
+    }
+
+    /// Whether a record has a length that may be, and a file has room for it alone.
+    fn holds_alone(&self, record: &Record) -> bool {
+        let alone = self.octets_of(record.release, record.release, record.octets());
+        record.body.len() < RESERVED && alone <= self.limit
+    }
+
+    /// The file that would open now.
+    fn empty_file(&self, now: u32) -> OpenFile {
+        OpenFile {
+            sequence: self.next,
+            opened: now,
+            appended: now,
+            high: self.release,
+            low: self.release,
+            format: 0,
+            count: 0,
+            octets: 0,
+        }
+    }
+
+    /// Makes this the open file; if none was open, its sequence number is used up.
+    fn hold(&mut self, file: OpenFile) {
+        if self.file.replace(file).is_none() {
+            self.next = self.next.wrapping_add(1);
+        }
+    }
+
+    /// Writes a record that a file holds alone to the store; the octets of the file it closed.
+    fn place(
+        &mut self,
+        node: &Node,
+        store: &mut [u8],
+        output: &mut [u8],
+        now: u32,
+        record: &Record,
+    ) -> Result<Option<usize>, (u8, usize)> {
+        let joined = match &self.file {
+            None => self.empty_file(now).with(record, now),
+            Some(file) => file.with(record, now),
+        };
+        if let Some(reason) = self.parting(&joined, record) {
+            // The next file's first record does not fill it: no file of a limit of 1 is open with
+            // a record in it.
+            let closed = self.close(node, reason, store, output)?;
+            record.write(&mut store[self.region..]);
+            let alone = self.empty_file(now).with(record, now);
+            self.hold(alone);
+            return Ok(Some(closed));
+        }
+        let fills = joined.count == self.most;
+        let needed = self.octets_of(joined.high, joined.low, joined.octets);
+        if fills && output.len() < needed {
+            return Err((17, needed));
+        }
+        record.write(&mut store[self.region + joined.octets - record.octets()..]);
+        self.hold(joined);
+        fills
+            .then(|| self.close(node, FULL, store, output))
+            .transpose()
+    }
+
+    /// The reason for which the open file closes before the record that would make it `joined`.
+    fn parting(&self, joined: &OpenFile, record: &Record) -> Option<u8> {
+        let file = self.file.as_ref().filter(|file| file.count > 0)?;
+        // All records of a file under the flag have one release, so high is any's.
+        let other_release = self.one_release && file.high != record.release;
+        if file.format != record.format || other_release {
+            return Some(OTHER_FORMAT);
+        }
+        let octets = self.octets_of(joined.high, joined.low, joined.octets);
+        (octets > self.limit).then_some(TOO_LONG)
+    }
+
+    /// Lays the open file out at the output's start and starts the losses anew; its octets.
+    fn close(
+        &mut self,
+        node: &Node,
+        reason: u8,
+        store: &[u8],
+        output: &mut [u8],
+    ) -> Result<usize, (u8, usize)> {
+        let file = self.file.as_ref().ok_or((15, 0))?;
+        let octets = self.octets_of(file.high, file.low, file.octets);
+        let place = output.get_mut(..octets).ok_or((17, octets))?;
+        let (header, records) = place.split_at_mut(octets - file.octets);
+        self.lay_header(node, file, reason, header, octets);
+        records.copy_from_slice(&store[self.region..][..file.octets]);
+        self.file = None;
+        self.losses = 0;
+        self.note = false;
+        Ok(octets)
+    }
+
+    fn lay_header(
+        &self,
+        node: &Node,
+        file: &OpenFile,
+        reason: u8,
+        header: &mut [u8],
+        octets: usize,
+    ) {
+        let length = header.len() as u32;
+        let (fixed, behind) = header.split_at_mut(FIXED);
+        fixed[0..4].copy_from_slice(&(octets as u32).to_be_bytes());
+        fixed[4..8].copy_from_slice(&length.to_be_bytes());
+        fixed[8] = file.high.octet();
+        fixed[9] = file.low.octet();
+        fixed[10..14].copy_from_slice(&node.stamp(file.opened));
+        fixed[14..18].copy_from_slice(&node.stamp(file.appended));
+        fixed[18..22].copy_from_slice(&file.count.to_be_bytes());
+        fixed[22..26].copy_from_slice(&file.sequence.to_be_bytes());
+        fixed[26] = reason;
+        fixed[27..47].copy_from_slice(&node.address);
+        fixed[47] = indicator(self.losses, self.note);
+        fixed[48..50].copy_from_slice(&(self.filter_octets as u16).to_be_bytes());
+        let (filter, extensions) = behind.split_at_mut(self.filter_octets);
+        filter.copy_from_slice(self.filter());
+        // None, one or two octets: low has one only if high has.
+        let of_each = [file.high, file.low].map(Rank::extension);
+        extensions.copy_from_slice(&of_each[..extensions.len()]);
+    }
+
+    fn state(&self) -> RouteState {
+        let octets = self.file_octets();
+        let octets = octets.unwrap_or(self.octets_of(self.release, self.release, 0));
+        RouteState {
+            is_open: self.file.is_some(),
+            count: self.file.map_or(0, |file| file.count),
+            losses: self.losses,
+            note: self.note,
+            next: self.next,
+            spare: self.limit - octets,
+        }
+    }
+}
+
+impl OpenFile {
+    /// The file with one more record.
+    fn with(&self, record: &Record, now: u32) -> Self {
+        let release = record.release;
+        let (high, low) = match self.count {
+            0 => (release, release),
+            _ => (self.high.max(release), self.low.min(release)),
+        };
+        Self {
+            appended: now,
+            high,
+            low,
+            format: record.format,
+            count: self.count + 1,
+            octets: self.octets + record.octets(),
+            ..*self
+        }
+    }
+}
+
+/// The lost indicator of a file with these known losses and this note.
+pub fn indicator(losses: u32, note: bool) -> u8 {
+    let known = losses.min(127) as u8;
+    match (note, known) {
+        (false, 0) => 0,
+        (false, known) => 128 + known,
+        (true, 0) => 128,
+        (true, known) => known,
+    }
+}
+
+/// The bodies of the settings of a node and of 1 to 8 routes behind it.
+fn blocks(settings: &[u8]) -> Option<(&[u8; NODE_BODY], Vec<&[u8; ROUTE_BODY]>)> {
+    let (node, mut rest) = block(settings, NODE_KIND)?;
+    let mut routes = Vec::with_capacity(MOST_ROUTES);
+    while !rest.is_empty() {
+        let (route, behind) = block(rest, ROUTE_KIND)?;
+        routes.push(route);
+        rest = behind;
+    }
+    (1..=MOST_ROUTES)
+        .contains(&routes.len())
+        .then_some((node, routes))
+}
+
+/// The body of a setting of this kind, and what is behind it.
+fn block<const N: usize>(settings: &[u8], kind: u8) -> Option<(&[u8; N], &[u8])> {
+    let (&first, rest) = settings.split_first()?;
+    (first == kind).then(|| rest.split_first_chunk()).flatten()
+}
+
+#[cfg(test)]
+mod tests {
+    use super::*;
+    use crate::fields::Release;
+    use crate::settings;
+
+    fn release(release: u8, extension: u8) -> Release {
+        Release {
+            release,
+            extension,
+            version: 0,
+        }
+    }
+
+    /// The edge table's route.
+    fn plain() -> settings::Route {
+        settings::Route {
+            filter: Vec::new(),
+            limit: 128,
+            age: 0,
+            most: 0,
+            flag: 0,
+            release: release(4, 0),
+            first: 7,
+        }
+    }
+
+    fn lay(routes: &[settings::Route]) -> Vec<u8> {
+        let node = settings::Node {
+            address: [0, 0, 0, 0, 0, 0, 0, 0, 0, 0, 0xFF, 0xFF, 192, 0, 2, 1],
+            bias: 1_439,
+        };
+        settings::lay(node, routes)
+    }
+
+    /// A manager with a store and an output of its own.
+    #[derive(Clone, PartialEq, Debug)]
+    struct Desk {
+        manager: Manager,
+        store: Vec<u8>,
+        output: Vec<u8>,
+    }
+
+    impl Desk {
+        fn new(routes: &[settings::Route]) -> Self {
+            let manager = Manager::load(&lay(routes)).unwrap();
+            Self {
+                store: vec![0xA5; manager.store_octets()],
+                output: vec![0xA5; 2_000],
+                manager,
+            }
+        }
+
+        fn open(&mut self, time: u32, route: u32) -> [usize; 4] {
+            shown(self.manager.open(&self.store, time, route))
+        }
+
+        fn close(&mut self, time: u32, route: u32, reason: u32) -> [usize; 4] {
+            let manager = &mut self.manager;
+            shown(manager.close(&self.store, &mut self.output, time, route, reason))
+        }
+
+        fn tick(&mut self, time: u32) -> [usize; 4] {
+            shown(self.manager.tick(&self.store, &mut self.output, time))
+        }
+
+        fn receive(&mut self, time: u32, arrival: &Arrival) -> [usize; 4] {
+            let manager = &mut self.manager;
+            shown(manager.receive(&mut self.store, &mut self.output, time, arrival))
+        }
+
+        /// A usable record of this release and format, its body of so many octets.
+        fn place(&mut self, release: u32, format: u32, octets: usize) -> [usize; 4] {
+            let arrival = Arrival {
+                release,
+                format,
+                body: &vec![0xBB; octets],
+                ..Arrival::default()
+            };
+            self.receive(0, &arrival)
+        }
+
+        fn state(&self, route: usize) -> RouteState {
+            self.manager.routes().nth(route).unwrap()
+        }
+
+        /// The closed files at the output's start, read by the second reader.
+        fn files(&self, octets: usize) -> Vec<second::Contents> {
+            let mut rest = &self.output[..octets];
+            let mut files = Vec::new();
+            while let Some(length) = rest.first_chunk() {
+                let (file, behind) = rest.split_at(u32::from_be_bytes(*length) as usize);
+                files.push(second::read(file).unwrap());
+                rest = behind;
+            }
+            files
+        }
+
+        fn file(&self, octets: usize) -> second::Contents {
+            self.files(octets).pop().unwrap()
+        }
+
+        /// Does all to a copy, which must come out refused and otherwise unchanged.
+        fn refuses(&self, event: impl Fn(&mut Self) -> [usize; 4]) -> [usize; 2] {
+            let mut copy = self.clone();
+            let [refusal, octets, zero, nought] = event(&mut copy);
+            assert!(copy == *self, "a refusal leaves all");
+            assert_eq!((zero, nought), (0, 0));
+            [refusal - REFUSED, octets]
+        }
+    }
+
+    const REFUSED: usize = 1_000;
+
+    /// Outcome, route, files, octets; or 1,000 and the refusal, the needed octets, zeros.
+    fn shown(answer: Answer) -> [usize; 4] {
+        match answer {
+            Err((refusal, needed)) => [REFUSED + usize::from(refusal), needed, 0, 0],
+            Ok(accepted) => [
+                accepted.outcome as usize,
+                usize::from(accepted.route),
+                usize::from(accepted.files),
+                accepted.octets,
+            ],
+        }
+    }
+
+    const PLACED: [usize; 4] = [2, 0, 0, 0];
+    const LOST: [usize; 4] = [3, 0, 0, 0];
+    const UNROUTED: [usize; 4] = [4, 255, 0, 0];
+
+    const MARK_1: Arrival = Arrival {
+        mark: 1,
+        key: &[],
+        release: 99,
+        version: 99,
+        extension: 99,
+        format: 99,
+        ts: 99,
+        body: &[],
+    };
+    const MARK_2: Arrival = Arrival {
+        mark: 2,
+        key: &[0; 21],
+        ..MARK_1
+    };
+
+    #[test]
+    fn the_edge_tables_indicators() {
+        for (losses, octet) in [(0, 0), (1, 129), (126, 254), (127, 255), (40_000, 255)] {
+            assert_eq!(indicator(losses, false), octet);
+        }
+        for (losses, octet) in [(0, 128), (3, 3), (127, 127), (128, 127), (u32::MAX, 127)] {
+            assert_eq!(indicator(losses, true), octet);
+        }
+        assert_eq!(indicator(200, false), 255);
+    }
+
+    #[test]
+    fn the_edge_tables_limit_rows() {
+        let fresh = Desk::new(&[plain()]);
+        for (release, fits) in [(4, 74), (7, 71)] {
+            assert_eq!(fresh.clone().place(release, 1, fits), PLACED);
+            assert_eq!(fresh.clone().place(release, 1, fits + 1), LOST);
+        }
+        let mut holding = fresh;
+        assert_eq!(holding.place(4, 1, 20), PLACED);
+        assert_eq!(holding.clone().place(7, 1, 48), PLACED);
+        assert_eq!(holding.place(7, 1, 49), [2, 0, 1, 74]);
+        assert_eq!(holding.file(74).header.reason, 1);
+    }
+
+    #[test]
+    fn the_edge_tables_file() {
+        let mut desk = Desk::new(&[plain()]);
+        let arrival = Arrival {
+            release: 4,
+            version: 3,
+            format: 1,
+            ts: 15,
+            body: &[0xA1, 0xB2],
+            ..Arrival::default()
+        };
+        assert_eq!(desk.receive(0, &arrival), PLACED);
+        assert_eq!(desk.close(0, 0, 4), [5, 0, 1, 56]);
+        let expected = [
+            0, 0, 0, 0x38, 0, 0, 0, 0x32, 0x83, 0x83, 0x10, 0x80, 0x08, 0, 0x10, 0x80, 0x08, 0, 0,
+            0, 0, 1, 0, 0, 0, 7, 4, 0xFF, 0xFF, 0xFF, 0xFF, 0, 0, 0, 0, 0, 0, 0, 0, 0, 0, 0xFF,
+            0xFF, 0xC0, 0, 2, 1, 0, 0, 0, 0, 2, 0x83, 0x2F, 0xA1, 0xB2,
+        ];
+        assert_eq!(desk.output[..56], expected);
+        assert!(desk.output[56..].iter().all(|&octet| octet == 0xA5));
+        assert_eq!(desk.store[..6], expected[50..]);
+        assert!(desk.store[6..].iter().all(|&octet| octet == 0xA5));
+    }
+
+    #[test]
+    fn settings_are_refused_in_order() {
+        let right = lay(&[
+            plain(),
+            settings::Route {
+                filter: vec![0],
+                ..plain()
+            },
+        ]);
+        let load = |octets: &[u8]| Manager::load(octets).map_or_else(|refusal| refusal, |_| 0);
+        let with = |changes: &[(usize, u8)]| {
+            let mut octets = right.clone();
+            changes.iter().for_each(|&(at, octet)| octets[at] = octet);
+            load(&octets)
+        };
+        assert_eq!(load(&right), 0, "the filters \"\" and 0x00 differ");
+        for end in 0..right.len() {
+            let whole = end == NODE_OCTETS + ROUTE_OCTETS;
+            assert_eq!(load(&right[..end]), u8::from(!whole));
+        }
+        let route = &right[NODE_OCTETS..][..ROUTE_OCTETS];
+        assert_eq!(load(&[&right, &right[..NODE_OCTETS]].concat()), 1);
+        assert_eq!(load(&[&right[..NODE_OCTETS], &route.repeat(9)].concat()), 1);
+        assert_eq!(load(&[&right[..NODE_OCTETS], &route.repeat(8)].concat()), 3);
+        let second = NODE_OCTETS + ROUTE_OCTETS;
+        for at in [0, NODE_OCTETS, second] {
+            assert_eq!(with(&[(at, 3), (17, 0xFF), (second + 1, 0)]), 1);
+        }
+        assert_eq!(with(&[(17, 0x0B), (18, 0x3E)]), 0, "1,439");
+        assert_eq!(with(&[(17, 0x0B), (18, 0x3F)]), 2);
+        let wrong = [
+            (1, 21),
+            (1, 255),
+            (2, 1),
+            (21, 1),
+            (22, 1),
+            (25, 127),
+            (34, 2),
+            (36, 1),
+        ];
+        for (at, octet) in wrong {
+            // The second route's filter becomes the first's, which is refused only later.
+            assert_eq!(with(&[(NODE_OCTETS + at, octet), (second + 1, 0)]), 2);
+        }
+        assert_eq!(with(&[(NODE_OCTETS + 23, 0x10), (NODE_OCTETS + 25, 0)]), 0);
+        assert_eq!(with(&[(NODE_OCTETS + 23, 0x10), (NODE_OCTETS + 25, 1)]), 2);
+        assert_eq!(with(&[(NODE_OCTETS + 35, 0xE0), (NODE_OCTETS + 36, 9)]), 0);
+        assert_eq!(with(&[(second + 1, 0)]), 3);
+    }
+
+    #[test]
+    fn an_empty_files_header_shrinks_with_its_first_record() {
+        let mut desk = Desk::new(&[settings::Route {
+            release: release(7, 9),
+            ..plain()
+        }]);
+        let mut empty = desk.clone();
+        assert_eq!(empty.open(0, 0), [1, 0, 0, 0]);
+        assert_eq!(empty.close(0, 0, 0), [5, 0, 1, 52]);
+        assert_eq!(empty.file(52).header.low.extension, 9);
+        assert_eq!(desk.open(0, 0), [1, 0, 0, 0]);
+        assert_eq!(desk.place(4, 1, 74), PLACED);
+        assert_eq!(desk.close(0, 0, 0), [5, 0, 1, 128]);
+        assert_eq!(desk.file(128).header.high.release, 4);
+    }
+
+    #[test]
+    fn losses_are_cleared_at_closing_and_not_at_opening() {
+        let mut desk = Desk::new(&[plain()]);
+        assert_eq!(desk.receive(5, &MARK_1), LOST);
+        assert_eq!(desk.receive(5, &MARK_1), LOST);
+        assert!(!desk.state(0).is_open, "a loss opens nothing");
+        assert_eq!(desk.open(0, 0), [1, 0, 0, 0]);
+        assert_eq!(desk.place(4, 1, 75), LOST);
+        assert_eq!(desk.state(0).losses, 3);
+        assert_eq!(desk.receive(5, &MARK_2), UNROUTED);
+        assert_eq!(desk.close(0, 0, 131), [5, 0, 1, 50]);
+        assert_eq!(desk.file(50).header.lost, 3);
+        assert_eq!((desk.state(0).losses, desk.state(0).note), (0, false));
+        assert_eq!(desk.manager.unrouted(), 1);
+        desk.open(0, 0);
+        desk.close(0, 0, 0);
+        assert_eq!(desk.file(50).header.lost, 0);
+    }
+
+    #[test]
+    fn the_effective_time_never_runs_back() {
+        let mut desk = Desk::new(&[settings::Route { age: 10, ..plain() }]);
+        assert_eq!(desk.receive(100, &MARK_1), LOST);
+        assert_eq!(desk.open(3, 0), [1, 0, 0, 0]);
+        assert_eq!(desk.tick(109), [6, 255, 0, 0]);
+        assert_eq!(desk.tick(20), [6, 255, 0, 0]);
+        assert_eq!(desk.manager.last(), 109);
+        assert_eq!(desk.place(4, 1, 0), PLACED);
+        assert_eq!(desk.tick(110), [6, 255, 1, 54]);
+        let header = desk.file(54).header;
+        assert_eq!((header.opened.hour, header.opened.minute), (1, 40));
+        assert_eq!((header.appended.hour, header.appended.minute), (1, 49));
+        assert_eq!(header.reason, 2);
+    }
+
+    const EIGHT: [&[u8]; 8] = [&[], &[0], &[0, 0], &[1], &[1, 0], &[1, 2], &[2], &[2; 20]];
+
+    fn eight() -> Desk {
+        let routes = EIGHT.map(|filter| settings::Route {
+            filter: filter.to_vec(),
+            age: 1,
+            ..plain()
+        });
+        Desk::new(&routes)
+    }
+
+    #[test]
+    fn a_tick_closes_up_to_eight_files_in_route_order() {
+        let mut desk = eight();
+        let filters: usize = EIGHT.iter().map(|filter| filter.len()).sum();
+        (0..8).for_each(|route| assert_eq!(desk.open(0, route)[0], 1));
+        desk.output.truncate(8 * FIXED + filters - 1);
+        assert_eq!(desk.refuses(|desk| desk.tick(1)), [17, 8 * FIXED + filters]);
+        desk.output.push(0);
+        let octets = desk.output.len();
+        assert_eq!(desk.tick(1), [6, 255, 8, octets]);
+        let lengths = desk.files(octets).into_iter().map(|file| file.filter.len());
+        assert!(lengths.eq(EIGHT.map(|filter| filter.len())));
+        assert_eq!(desk.tick(100), [6, 255, 0, 0]);
+    }
+
+    #[test]
+    fn the_longest_filter_decides() {
+        let mut desk = eight();
+        let route = |desk: &mut Desk, key| desk.receive(0, &Arrival { key, ..MARK_1 })[1];
+        assert_eq!(route(&mut desk, &[]), 0);
+        assert_eq!(route(&mut desk, &[0, 0, 5]), 2);
+        assert_eq!(route(&mut desk, &[0, 1]), 1);
+        assert_eq!(route(&mut desk, &[1, 1, 2]), 3);
+        assert_eq!(route(&mut desk, &[2; 19]), 6);
+        assert_eq!(route(&mut desk, &[2; 20]), 7);
+        assert_eq!(route(&mut desk, &[9]), 0);
+    }
+
+    #[test]
+    fn an_unrouted_record_notes_all_routes() {
+        let mut desk = Desk::new(&[
+            settings::Route {
+                filter: vec![1],
+                ..plain()
+            },
+            settings::Route {
+                filter: vec![2],
+                ..plain()
+            },
+        ]);
+        desk.open(0, 1);
+        // Mark 1 and a good key that no filter fits.
+        assert_eq!(desk.receive(9, &MARK_1), UNROUTED);
+        assert!(desk.state(0).note && desk.state(1).note);
+        assert_eq!((desk.manager.unrouted(), desk.manager.last()), (1, 9));
+        assert_eq!(desk.close(0, 1, 0)[0], 5);
+        assert_eq!(desk.file(51).header.lost, 128);
+        assert!(desk.state(0).note && !desk.state(1).note);
+    }
+
+    #[test]
+    fn format_and_flag_close_with_5_and_before_1() {
+        let mut desk = Desk::new(&[plain()]);
+        desk.place(4, 1, 30);
+        assert_eq!(desk.clone().place(5, 1, 30), PLACED, "the flag is 0");
+        assert_eq!(desk.place(4, 2, 74), [2, 0, 1, 84]);
+        assert_eq!(desk.file(84).header.reason, 5);
+        assert_eq!(desk.state(0).count, 1);
+        assert_eq!(desk.store[..4], [0, 74, 0x80, 0x40]);
+        let mut flagged = Desk::new(&[settings::Route {
+            flag: 1,
+            release: release(7, 9),
+            ..plain()
+        }]);
+        flagged.open(0, 0);
+        assert_eq!(
+            flagged.place(4, 1, 1),
+            PLACED,
+            "an empty file has no release"
+        );
+        assert_eq!(flagged.place(4, 1, 1), PLACED);
+        assert_eq!(flagged.place(7, 1, 1), [2, 0, 1, 60]);
+        assert_eq!(flagged.file(60).header.reason, 5);
+    }
+
+    #[test]
+    fn a_full_file_closes_with_its_last_record_and_numbers_wrap() {
+        let full = settings::Route {
+            most: 2,
+            first: u32::MAX,
+            ..plain()
+        };
+        let mut desk = Desk::new(&[full]);
+        assert_eq!(desk.place(4, 1, 3), PLACED);
+        assert_eq!(desk.state(0).next, 0);
+        desk.output.truncate(63);
+        assert_eq!(desk.refuses(|desk| desk.place(4, 1, 3)), [17, 64]);
+        desk.output.push(0);
+        assert_eq!(desk.place(4, 1, 3), [2, 0, 1, 64]);
+        let header = desk.file(64).header;
+        assert_eq!((header.reason, header.sequence), (3, u32::MAX));
+        desk.open(0, 0);
+        desk.close(0, 0, 4);
+        assert_eq!(desk.file(50).header.sequence, 0);
+        let mut single = Desk::new(&[settings::Route { most: 1, ..plain() }]);
+        assert_eq!(single.place(4, 1, 3), [2, 0, 1, 57]);
+        assert!(!single.state(0).is_open);
+    }
+
+    #[test]
+    fn the_longest_bodies() {
+        let mut desk = Desk::new(&[settings::Route {
+            limit: 1_048_576,
+            ..plain()
+        }]);
+        assert_eq!(desk.place(4, 1, 65_534), PLACED);
+        assert_eq!(desk.place(4, 1, 65_535), LOST);
+        assert_eq!(desk.place(4, 1, 70_000), LOST);
+        assert_eq!(desk.store[..2], [0xFF, 0xFE]);
+    }
+
+    #[test]
+    fn refusals_come_in_order_and_leave_all() {
+        const LATE: u32 = LAST_MINUTE + 1;
+        const MARK_3: Arrival = Arrival { mark: 3, ..MARK_1 };
+        let mut desk = Desk::new(&[plain()]);
+        let mut short = desk.clone();
+        short.store.pop();
+        assert_eq!(short.refuses(|desk| desk.open(LATE, 9)), [16, 0]);
+        assert_eq!(short.refuses(|desk| desk.close(LATE, 9, 9)), [16, 0]);
+        assert_eq!(short.refuses(|desk| desk.tick(LATE)), [16, 0]);
+        assert_eq!(short.refuses(|desk| desk.receive(LATE, &MARK_3)), [16, 0]);
+        assert_eq!(desk.refuses(|desk| desk.open(LATE, 9)), [4, 0]);
+        assert_eq!(desk.refuses(|desk| desk.close(LATE, 9, 9)), [4, 0]);
+        assert_eq!(desk.refuses(|desk| desk.tick(LATE)), [4, 0]);
+        assert_eq!(desk.refuses(|desk| desk.receive(LATE, &MARK_3)), [4, 0]);
+        assert_eq!(desk.refuses(|desk| desk.receive(0, &MARK_3)), [5, 0]);
+        for route in [1, 255, 256, u32::MAX] {
+            assert_eq!(desk.refuses(|desk| desk.open(0, route)), [6, 0]);
+            assert_eq!(desk.refuses(|desk| desk.close(0, route, 9)), [6, 0]);
+        }
+        for reason in [1, 2, 3, 5, 127, 132, 256, 260, u32::MAX] {
+            assert_eq!(desk.refuses(|desk| desk.close(0, 0, reason)), [7, 0]);
+        }
+        assert_eq!(desk.refuses(|desk| desk.close(0, 0, 0)), [15, 0]);
+        desk.open(0, 0);
+        assert_eq!(desk.refuses(|desk| desk.open(0, 0)), [14, 0]);
+        desk.output.truncate(49);
+        assert_eq!(desk.refuses(|desk| desk.close(0, 0, 0)), [17, 50]);
+        desk.place(4, 1, 74);
+        assert_eq!(desk.refuses(|desk| desk.place(4, 1, 0)), [17, 128]);
+        assert_eq!(desk.refuses(|desk| desk.place(4, 2, 0)), [17, 128]);
+        assert_eq!(desk.place(4, 2, 75), LOST, "a loss needs no output");
+    }
+
+    #[test]
+    fn fields_are_judged_only_of_usable_records() {
+        let mut desk = Desk::new(&[settings::Route {
+            filter: vec![1],
+            ..plain()
+        }]);
+        let right = Arrival {
+            release: 7,
+            version: 31,
+            extension: 255,
+            format: 7,
+            ts: 31,
+            ..Arrival::default()
+        };
+        assert_eq!(desk.clone().receive(0, &right), UNROUTED);
+        let wrong = [
+            Arrival {
+                release: 8,
+                ..right
+            },
+            Arrival {
+                release: 263,
+                ..right
+            },
+            Arrival {
+                version: 32,
+                ..right
+            },
+            Arrival { format: 8, ..right },
+            Arrival { ts: 32, ..right },
+            Arrival {
+                release: 6,
+                ..right
+            },
+            Arrival {
+                key: &[1; 21],
+                ..right
+            },
+            Arrival {
+                key: &[1; 21],
+                ..MARK_1
+            },
+            Arrival { mark: 256, ..right },
+        ];
+        for arrival in wrong {
+            assert_eq!(desk.refuses(|desk| desk.receive(0, &arrival)), [5, 0]);
+        }
+        assert_eq!(desk.receive(0, &MARK_2), UNROUTED);
+        assert_eq!(
+            desk.receive(
+                0,
+                &Arrival {
+                    key: &[1; 20],
+                    ..MARK_1
+                }
+            ),
+            LOST
+        );
+    }
+
+    #[test]
+    fn counters_do_not_pass_their_end() {
+        let mut desk = Desk::new(&[plain()]);
+        desk.manager.unrouted = u32::MAX;
+        desk.manager.routes[0].losses = u32::MAX;
+        assert_eq!(desk.refuses(|desk| desk.receive(9, &MARK_1)), [19, 0]);
+        assert_eq!(desk.refuses(|desk| desk.receive(9, &MARK_2)), [19, 0]);
+        assert_eq!(desk.refuses(|desk| desk.place(4, 1, 75)), [19, 0]);
+        assert_eq!(desk.place(4, 1, 74), PLACED);
+    }
+
+    #[test]
+    fn regions_stand_in_route_order() {
+        let mut desk = Desk::new(&[
+            settings::Route {
+                filter: vec![1],
+                limit: 130,
+                ..plain()
+            },
+            settings::Route {
+                filter: vec![2],
+                limit: 200,
+                ..plain()
+            },
+        ]);
+        assert_eq!(desk.store.len(), 330);
+        let arrival = Arrival {
+            key: &[2, 2],
+            body: &[3],
+            ..Arrival::default()
+        };
+        assert_eq!(desk.receive(0, &arrival), [2, 1, 0, 0]);
+        assert_eq!(desk.receive(0, &arrival), [2, 1, 0, 0]);
+        assert_eq!(desk.store[130..140], [0, 1, 0, 0, 3, 0, 1, 0, 0, 3]);
+        let others = [&desk.store[..130], &desk.store[140..]].concat();
+        assert!(others.iter().all(|&octet| octet == 0xA5));
+    }
+}
