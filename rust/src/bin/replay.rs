@@ -94,7 +94,8 @@ fn run_proved(program: &Path, script: &[u8]) -> Result<Vec<u8>, String> {
     }
 }
 
-/// Holds both programs against what stands beside each lesson.
+/// Holds both programs against what stands beside each lesson, and reads each closed file there by
+/// the second reader.
 fn compare_lessons(folder: &Path) -> Result<(), String> {
     let entries = fs::read_dir(folder).map_err(|error| format!("{}: {error}", folder.display()))?;
     let paths = entries.filter_map(|entry| Some(entry.ok()?.path()));
@@ -107,6 +108,7 @@ fn compare_lessons(folder: &Path) -> Result<(), String> {
     lessons.sort();
     let program = proved_program();
     let mut differences = 0;
+    let mut counts = Counts::default();
     for lesson in &lessons {
         let script = contents(lesson)?;
         let expected = contents(&lesson.with_extension("out"));
@@ -116,7 +118,8 @@ fn compare_lessons(folder: &Path) -> Result<(), String> {
         ];
         for (name, printed) in programs {
             let difference = match (&expected, printed) {
-                (Ok(expected), Ok(printed)) => difference(expected, &printed),
+                (Ok(expected), Ok(printed)) => difference(expected, &printed)
+                    .or_else(|| audit(&script, &printed, &mut counts).err()),
                 (Err(what), _) => Some(what.clone()),
                 (_, Err(what)) => Some(what),
             };
@@ -129,7 +132,9 @@ fn compare_lessons(folder: &Path) -> Result<(), String> {
     match (differences, lessons.len()) {
         (_, 0) => Err(format!("{}: no lessons", folder.display())),
         (0, count) => {
-            println!("{count} lessons, no difference");
+            // Each lesson was looked at twice, once for each program.
+            let files = sum(&counts.reasons) / 2;
+            println!("{count} lessons, {files} closed files read, no difference");
             Ok(())
         }
         (count, _) => Err(format!("{count} differences")),
