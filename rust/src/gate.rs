@@ -159,8 +159,8 @@ pub struct Gate {
     /// Its first `window` octets are lent.
     output: Vec<u8>,
     window: usize,
-    /// Whether an event came since the settings.
-    had_event: bool,
+    /// Whether a store is taken: from settings, also refused ones, to the first event.
+    takes_store: bool,
 }
 
 impl Gate {
@@ -169,10 +169,7 @@ impl Gate {
         match parse(line)? {
             Line::Comment => Some(()),
             Line::Settings(octets) => self.load(&octets, printed),
-            Line::Store(octets) => {
-                let is_time = self.manager.is_some() && !self.had_event;
-                is_time.then(|| self.store = vec![0; octets])
-            }
+            Line::Store(octets) => self.takes_store.then(|| self.store = vec![0; octets]),
             Line::Window(octets) => {
                 self.window = octets;
                 Some(())
@@ -194,7 +191,7 @@ impl Gate {
         let loaded = Manager::load(settings);
         self.window = MOST_OCTETS;
         self.output.resize(MOST_OCTETS, 0);
-        self.had_event = false;
+        self.takes_store = true;
         match &loaded {
             Err(refusal) => print(printed, format_args!("S {refusal} 0")),
             Ok(manager) if manager.store_octets() > MOST_OCTETS => return None,
@@ -224,7 +221,7 @@ impl Gate {
             }
             _ => return None,
         };
-        self.had_event = true;
+        self.takes_store = false;
         print_answer(answer, printed);
         print_files(
             answer.map_or(&[], |accepted| &output[..accepted.octets]),

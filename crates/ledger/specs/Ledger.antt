@@ -281,12 +281,16 @@ routedTo l a key = cond (eqb (a .mark) 2) nobody (amongLines l key (length (l .l
 abbrev pub lostBy : RouteSettings → Arrival → ℕ → Bool
 lostBy s a body = lost (s .limit) (s .octets) (a .mark) (headerFor a .release) body
 
--- records differ from a new one: in format, or with flag 1 in release, extension or version
-abbrev pub differsFrom : RouteSettings → List Record → Record → Bool
-differsFrom s [] r = false
-differsFrom s (x ∷ xs) r =
+-- a record differs from a new one: in format, or with flag 1 in release, extension or version
+abbrev pub differsOne : RouteSettings → Record → Record → Bool
+differsOne s x r =
     not (eqb (x .header .format) (r .header .format))
     || (eqb (s .flag) 1 && not (sameRelease (x .header .release) (r .header .release)))
+
+-- one of a file's records does
+abbrev pub differsFrom : RouteSettings → List Record → Record → Bool
+differsFrom s [] r = false
+differsFrom s (x ∷ xs) r = differsOne s x r || differsFrom s xs r
 
 abbrev pub exceedsWith : RouteSettings → List Record → Record → Bool
 exceedsWith s rs r = ltb (s .limit) (sizeOf s (rs ++ (r ∷ [])))

@@ -9,7 +9,7 @@ use native.Mathlib.Omega.{arith}
 use lib.Dec.{ltb, leb, eqb, eqb·suc-zero}
 use lib.ListN.{length, take, drop, length-append}
 use lib.Seq.{length-take-le, take-add, drop-at, drop-drop}
-use borrow.Author.Tests.{ltb-true, eqb-true, lt-ltb, not-false}
+use borrow.Author.Tests.{ltb-true, ltb-false, eqb-true, lt-ltb, not-false}
 use Rattle.octets.specs.Splice.{splice, splice-take, splice-there, splice-length}
 use Rattle.refusals.specs.Refusal.{or-false}
 use Rattle.record.specs.declared.Release.{Release}
@@ -25,7 +25,7 @@ use Rattle.state.specs.Bounds.{sameRelease}
 use Rattle.manager.specs.declared.Arrival.{Arrival}
 use Rattle.manager.specs.Rules.{openedRoute, closedRoute, lostRoute, notedRoute, appendedRoute, later, earlier, highWith, lowWith, differs, exceeds, full, due, recordSize}
 use Rattle.manager.specs.Receive.{recordOf}
-use Rattle.ledger.specs.Ledger.{OpenFile, Current, none, some, Line, isOpen, greatest, highest, least, lowest, sizeOf, openLine, closeLine, withCurrent, receivedLine, lostLine, notedLine, appendTo, dueFile, differsFrom, exceedsWith, fullWith}
+use Rattle.ledger.specs.Ledger.{OpenFile, Current, none, some, Line, isOpen, greatest, highest, least, lowest, sizeOf, openLine, closeLine, withCurrent, receivedLine, lostLine, notedLine, appendTo, dueFile, differsOne, differsFrom, exceedsWith, fullWith}
 use Rattle.ledger.specs.Agrees.{Formats, AgreesOpen, AgreesFile, AgreesLine}
 
 -- Which file is open.
@@ -257,36 +257,67 @@ append-agrees a o h body t right fits format =
       held-next = a .held-next;
     }
 
--- The first record's release lies between the lowest and the highest.
-later-from : (a b : Release) → rank a ≤ rank (later a b)
+-- A file whose lowest and highest release are the same has that release in every record.
+
+-- every record's release has the rank
+abbrev Ranks : ℕ → List Record → Type 0
+Ranks k [] = Unit {0}
+Ranks k (x ∷ xs) = (rank (x .header .release) ≡ k) × Ranks k xs
+
+later-from : (a b : Release) → (rank a ≤ rank (later a b)) × (rank b ≤ rank (later a b))
 later-from a b = by-test (ltb (rank a) (rank b)) refl
   where
-    by-test : (t : Bool) → ltb (rank a) (rank b) ≡ t → rank a ≤ rank (cond t b a)
-    by-test true e = let l = ltb-true (rank a) (rank b) e in omega arith
-    by-test false e = le-refl (rank a)
+    by-test : (t : Bool) → ltb (rank a) (rank b) ≡ t → (rank a ≤ rank (cond t b a)) × (rank b ≤ rank (cond t b a))
+    by-test true e = let l = ltb-true (rank a) (rank b) e in (omega arith, le-refl (rank b))
+    by-test false e = (le-refl (rank a), ltb-false (rank a) (rank b) e)
 
-earlier-to : (a b : Release) → rank (earlier a b) ≤ rank a
+earlier-to : (a b : Release) → (rank (earlier a b) ≤ rank a) × (rank (earlier a b) ≤ rank b)
 earlier-to a b = by-test (ltb (rank b) (rank a)) refl
   where
-    by-test : (t : Bool) → ltb (rank b) (rank a) ≡ t → rank (cond t b a) ≤ rank a
-    by-test true e = let l = ltb-true (rank b) (rank a) e in omega arith
-    by-test false e = le-refl (rank a)
+    by-test : (t : Bool) → ltb (rank b) (rank a) ≡ t → (rank (cond t b a) ≤ rank a) × (rank (cond t b a) ≤ rank b)
+    by-test true e = let l = ltb-true (rank b) (rank a) e in (omega arith, le-refl (rank b))
+    by-test false e = (le-refl (rank a), ltb-false (rank b) (rank a) e)
 
-greatest-from : (a : Release) (rs : List Record) → rank a ≤ rank (greatest a rs)
-greatest-from a [] = le-refl (rank a)
-greatest-from a (x ∷ rs) = le-trans (later-from a (x .header .release)) (greatest-from (later a (x .header .release)) rs)
+squeezed : (p b a q k n : ℕ) → p ≤ b → b ≤ a → a ≤ q → p ≤ n → n ≤ q → p ≡ k → q ≡ k → (a ≡ k) × (b ≡ k) × (n ≡ k)
+squeezed p b a q k n pb ba aq pn nq e f = (omega arith, omega arith, omega arith)
 
-least-to : (a : Release) (rs : List Record) → rank (least a rs) ≤ rank a
-least-to a [] = le-refl (rank a)
-least-to a (x ∷ rs) = le-trans (least-to (earlier a (x .header .release)) rs) (earlier-to a (x .header .release))
+-- the search for both ends from a and b, which lie one above the other
+one-rank : (k : ℕ) (a b : Release) (rs : List Record) → rank b ≤ rank a → rank (greatest a rs) ≡ k → rank (least b rs) ≡ k
+    → (rank a ≡ k) × (rank b ≡ k) × Ranks k rs
+one-rank k a b [] l g m = (g, m, tt)
+one-rank k a b (x ∷ rs) l g m =
+    let up = later-from a (x .header .release) in
+    let down = earlier-to b (x .header .release) in
+    let rest = one-rank k (later a (x .header .release)) (earlier b (x .header .release)) rs (le-trans (down .0) (le-trans l (up .0))) g m in
+    let t = squeezed (rank (earlier b (x .header .release))) (rank b) (rank a) (rank (later a (x .header .release))) k (rank (x .header .release)) (down .0) l (up .0) (down .1) (up .1) (rest .1) (rest .0) in
+    (t .0, t .1, (t .2, rest .2))
 
-between : (m n k : ℕ) → m ≤ n → n ≤ k → m ≡ k → k ≡ n
-between m n k p q e = omega arith
-
--- Decisions: records differ. With flag 1 an open file's low and high are the same (state's bounds), so its first record's release is its high.
+-- Decisions: records differ. All have the file's format, and with flag 1 its high (state's bounds make low and high the same), so each
+-- differs from the new one exactly when the file's fields do.
 flag-by : (t : Bool) (flag m n k : ℕ) → eqb flag 1 ≡ t → (flag ≡ 1 → m ≡ n) → (t && not (eqb m k)) ≡ (t && not (eqb n k))
 flag-by true flag m n k e p = ap (λ (i : ℕ). not (eqb i k)) (p (eqb-true flag 1 e))
 flag-by false flag m n k e p = refl
+
+or-self : (t : Bool) → (t || t) ≡ t
+or-self true = refl
+or-self false = refl
+
+or-none : (t : Bool) → (t || false) ≡ t
+or-none true = refl
+or-none false = refl
+
+module _ (s : RouteSettings) (y : Record) (format k : ℕ) where
+  abbrev fieldsDiffer : Bool
+  fieldsDiffer = not (eqb format (y .header .format)) || (eqb (s .flag) 1 && not (eqb k (rank (y .header .release))))
+
+  one-differs : (x : Record) → x .header .format ≡ format → (s .flag ≡ 1 → rank (x .header .release) ≡ k) → differsOne s x y ≡ fieldsDiffer
+  one-differs x e f =
+      let flag = flag-by (eqb (s .flag) 1) (s .flag) (rank (x .header .release)) k (rank (y .header .release)) refl f in
+      λ i. not (eqb (e i) (y .header .format)) || flag i
+
+  all-differ : (x : Record) (rs : List Record) → Formats format (x ∷ rs) → (s .flag ≡ 1 → Ranks k (x ∷ rs)) → differsFrom s (x ∷ rs) y ≡ fieldsDiffer
+  all-differ x [] e f = (λ i. one-differs x (e .0) (λ o. f o .0) i || false) ∙ or-none fieldsDiffer
+  all-differ x (z ∷ rs) e f = (λ i. one-differs x (e .0) (λ o. f o .0) i || all-differ z rs (e .1) (λ o. f o .1) i) ∙ or-self fieldsDiffer
 
 module _ (r : Route) (h : RecordHeader) (body : List ℕ) (live : r .«open» ≡ true) (flagged : r .settings .flag ≡ 1 → rank (r .file .low) ≡ rank (r .file .high)) where
   differs-by : (rs : List Record) → r .file .count ≡ length rs → Formats (r .file .format) rs
@@ -296,12 +327,12 @@ module _ (r : Route) (h : RecordHeader) (body : List ℕ) (live : r .«open» �
   differs-by (x ∷ rs) count formats high low =
       let first = x .header .release in
       let some : ltb 0 (r .file .count) ≡ true = lt-ltb 0 (r .file .count) (omega arith) in
-      let same : r .settings .flag ≡ 1 → rank (r .file .high) ≡ rank first =
-      λ e. between (rank (r .file .low)) (rank first) (rank (r .file .high))
-      (subst (λ (z : Release). rank z ≤ rank first) (sym low) (least-to first rs))
-      (subst (λ (z : Release). rank first ≤ rank z) (sym high) (greatest-from first rs)) (flagged e) in
-      let flag = flag-by (eqb (r .settings .flag) 1) (r .settings .flag) (rank (r .file .high)) (rank first) (rank (h .release)) refl same in
-      (λ i. (live i) && (some i) && (not (eqb (sym (formats .0) i) (h .format)) || (flag i)))
+      let ranks : r .settings .flag ≡ 1 → Ranks (rank (r .file .high)) (x ∷ rs) =
+      λ e.
+      let t = one-rank (rank (r .file .high)) first first rs (le-refl (rank first)) (ap rank (sym high)) (ap rank (sym low) ∙ flagged e) in
+      (t .0, t .2) in
+      (λ i. (live i) && (some i) && fieldsDiffer (r .settings) (record { header = h; body = body }) (r .file .format) (rank (r .file .high)))
+      ∙ sym (all-differ (r .settings) (record { header = h; body = body }) (r .file .format) (rank (r .file .high)) x rs formats ranks)
 
 -- a record that does not differ has the format of the file's records
 pub same-format : {store : List ℕ} {b : ℕ} {r : Route} {f : OpenFile} → AgreesOpen store b r f → (h : RecordHeader) → differs r h ≡ false

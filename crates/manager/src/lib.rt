@@ -9,7 +9,6 @@ pub use checks::common_refusal;
 pub use checks::either;
 pub use checks::refuse;
 pub use closing::close;
-pub use closing::close_file;
 pub use opening::open;
 pub use routes::closed_route;
 pub use routes::closed_size;

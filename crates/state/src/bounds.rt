@@ -3,7 +3,7 @@
 ghost use mathlib.Core.Path.{_≡_};
 ghost use Prim.Native.Nat.{_≤_};
 ghost use Rattle.record.specs.Release.{narrowRelease};
-ghost use Rattle.state.specs.Bounds.{zeroFrom, settingsRight, alike, sameFilter, newTo, distinct, fileRight, routeRight, routesRight, stateRight};
+ghost use Rattle.state.specs.Bounds.{zeroFrom, settingsRight, alike, sameFilter, distinct, fileRight, routeRight, routesRight, stateRight};
 use crate::Manager;
 use crate::OpenFile;
 use crate::Route;
@@ -66,34 +66,26 @@ fn same_filter(a: RouteSettings, b: RouteSettings) -> bool
     (a.octets == b.octets) & octets
 }
 
-// Whether no route below n has the filter of these settings.
-fn is_new_to(m: Manager, s: RouteSettings, n: usize) -> bool
-    requires { ⌜ n ≤ 8 ⌝ }
-    ensures { λ b. ⌜ b ≡ newTo m s n ⌝ }
-{
-    let mut new = true;
-    let mut i: usize = 0;
-    while i < n {
-        let r = m.routes[i];
-        let same = same_filter(r.settings, s);
-        new = new & !same;
-        i += 1;
-    }
-    new
-}
-
-// Whether no two of the routes below n have equal filters.
+// Whether no two of the routes below n have equal filters: route i is held against each route j below it. One loop over the
+// pairs, since a function for the inner one would be handed a copy of the state at each turn.
 pub fn are_distinct(m: Manager, n: usize) -> bool
     requires { ⌜ n ≤ 8 ⌝ }
     ensures { λ b. ⌜ b ≡ distinct m n ⌝ }
 {
     let mut all = true;
     let mut i: usize = 0;
+    let mut j: usize = 0;
     while i < n {
-        let r = m.routes[i];
-        let new = is_new_to(m, r.settings, i);
-        all = all & new;
-        i += 1;
+        if j < i {
+            let earlier = m.routes[j];
+            let later = m.routes[i];
+            let same = same_filter(earlier.settings, later.settings);
+            all = all & !same;
+            j += 1;
+        } else {
+            i += 1;
+            j = 0;
+        }
     }
     all
 }
