@@ -3,12 +3,16 @@
 //! compared.
 
 pub mod audit;
+pub mod cdrname;
 pub mod draft;
 pub mod fields;
 pub mod files;
 pub mod gate;
 pub mod inputs;
 pub mod manager;
+pub mod name;
+pub mod names;
+pub mod program;
 #[cfg(feature = "proved")]
 pub mod proved;
 pub mod random;

@@ -10,14 +10,13 @@
 use leveehum::audit::{audit, Counts, Tally};
 use leveehum::gate;
 use leveehum::manager::MOST_ROUTES;
+use leveehum::program::{contents, ended_lines, lessons, proved_program, run_proved};
 use leveehum::random::Random;
 use leveehum::scripts;
 use std::env;
-use std::fs;
 use std::io::{self, Write};
-use std::path::{Path, PathBuf};
-use std::process::{Command, ExitCode, Stdio};
-use std::thread;
+use std::path::Path;
+use std::process::ExitCode;
 use std::time::Instant;
 
 const SEED: u64 = 0x3229_7000_2026_0002;
@@ -60,53 +59,11 @@ fn print_all(scripts: &[&str]) -> Result<(), String> {
     Ok(())
 }
 
-fn contents(path: &Path) -> Result<Vec<u8>, String> {
-    fs::read(path).map_err(|error| format!("{}: {error}", path.display()))
-}
-
-fn proved_program() -> PathBuf {
-    match env::var_os("CDRGATE_BIN") {
-        Some(path) => PathBuf::from(path),
-        None => PathBuf::from(env!("CARGO_MANIFEST_DIR")).join("../target/bin/cdrgate"),
-    }
-}
-
-/// What the proved program prints for a script.
-fn run_proved(program: &Path, script: &[u8]) -> Result<Vec<u8>, String> {
-    let said = |error: io::Error| format!("{}: {error}", program.display());
-    let mut child = Command::new(program)
-        .stdin(Stdio::piped())
-        .stdout(Stdio::piped())
-        .spawn()
-        .map_err(said)?;
-    let input = child.stdin.take();
-    let output = thread::scope(|scope| {
-        scope.spawn(move || {
-            // The program need not read on behind a wrong line.
-            input.map(|mut input| input.write_all(script))
-        });
-        child.wait_with_output()
-    });
-    let output = output.map_err(said)?;
-    match output.status.code() {
-        Some(_) => Ok(output.stdout),
-        None => Err(format!("{}: {}", program.display(), output.status)),
-    }
-}
-
 /// Holds both programs against what stands beside each lesson, and reads each closed file there by
 /// the second reader.
 fn compare_lessons(folder: &Path) -> Result<(), String> {
-    let entries = fs::read_dir(folder).map_err(|error| format!("{}: {error}", folder.display()))?;
-    let paths = entries.filter_map(|entry| Some(entry.ok()?.path()));
-    let mut lessons: Vec<PathBuf> = paths
-        .filter(|path| {
-            path.extension()
-                .is_some_and(|extension| extension == "gate")
-        })
-        .collect();
-    lessons.sort();
-    let program = proved_program();
+    let lessons = lessons(folder, "gate")?;
+    let program = proved_program("cdrgate", "CDRGATE_BIN");
     let mut differences = 0;
     let mut counts = Counts::default();
     for lesson in &lessons {
@@ -157,16 +114,10 @@ fn difference(expected: &[u8], printed: &[u8]) -> Option<String> {
     ))
 }
 
-/// The lines with their ends, and then nothing for ever.
-fn ended_lines(text: &[u8]) -> impl Iterator<Item = Option<&[u8]>> {
-    let lines = text.split_inclusive(|&octet| octet == b'\n').map(Some);
-    lines.chain(std::iter::repeat(None))
-}
-
 /// Holds both programs against each other on random scripts.
 fn compare_random(count: usize) -> Result<(), String> {
     let start = Instant::now();
-    let program = proved_program();
+    let program = proved_program("cdrgate", "CDRGATE_BIN");
     let mut random = Random::new(SEED);
     let mut counts = Counts::default();
     let mut made = 0;

@@ -1,0 +1,115 @@
+// A run: the lines in order, each answered, up to a wrong one.
+ghost use Prim.Native.Nat.{_≤_};
+use crate::answers::print_read;
+use crate::answers::print_written;
+use crate::asked::Asked;
+use crate::asked::asked_by;
+use textlines::Printer;
+use textlines::Source;
+use textlines::Taken;
+use textlines::flush;
+use textlines::part;
+use textlines::print_error;
+use textlines::take_line;
+
+// The most lines: the loop must be shown to end.
+const LINES: u64 = 4000000000;
+
+// What is left of the input's buffer, what stands on the page, whether lines go on, and whether a wrong one ended them.
+struct Run {
+    source: Source,
+    printer: Printer,
+    is_going: bool,
+    is_wrong: bool,
+}
+
+fn start() -> Run {
+    Run {
+        source: Source { at: 0, end: 0 },
+        printer: Printer {
+            fill: 0,
+            works: true,
+        },
+        is_going: true,
+        is_wrong: false,
+    }
+}
+
+fn ended(run: Run, is_wrong: bool) -> Run {
+    let mut next = run;
+    next.is_going = false;
+    next.is_wrong = is_wrong;
+    next
+}
+
+fn printed(run: Run, printer: Printer) -> Run {
+    let mut next = run;
+    next.printer = printer;
+    next
+}
+
+fn answer(run: Run, line: &[u8], page: &mut [u8]) -> Run {
+    match asked_by(line) {
+        Asked::Read => {
+            let count = line.len();
+            if count < 2 {
+                return ended(run, true);
+            }
+            let p = print_read(page, run.printer, part(line, 2, count - 2));
+            printed(run, p)
+        }
+        Asked::Write(order) => {
+            let p = print_written(page, run.printer, order, line);
+            printed(run, p)
+        }
+        Asked::Wrong => ended(run, true),
+    }
+}
+
+// Takes the line of this number and answers it. Beyond the most lines every line is wrong.
+fn turn(run: Run, number: u64, input: &mut [u8], line: &mut [u8], page: &mut [u8]) -> Run {
+    match take_line(input, line, run.source) {
+        Taken::Nothing => ended(run, false),
+        Taken::Line(n, source) => {
+            if LINES < number {
+                return ended(run, true);
+            }
+            let mut next = run;
+            next.source = source;
+            answer(next, part(line, 0, n), page)
+        }
+        Taken::Long => ended(run, true),
+    }
+}
+
+// The turns that a run may take, the past ones included: none once it has ended or cannot print, or one more than the lines
+// that are taken, which tells a script of more.
+fn turns_of(run: Run) -> u64
+    ensures { λ r. ⌜ r ≤ 4000000001 ⌝ }
+{
+    if run.is_going & run.printer.works {
+        LINES + 1
+    } else {
+        0
+    }
+}
+
+// Prints the error of a run that has ended at the line of this number, and writes out the last page.
+fn finish(run: Run, number: u64, page: &mut [u8]) {
+    if run.is_wrong {
+        let printer = print_error(page, run.printer, number);
+        flush(page, printer);
+    } else {
+        flush(page, run.printer);
+    }
+}
+
+pub fn answer_all(input: &mut [u8], line: &mut [u8], page: &mut [u8]) {
+    let mut run = start();
+    let mut number: u64 = 0;
+    while number < turns_of(run) {
+        number += 1;
+        run = turn(run, number, input, line, page);
+    }
+    finish(run, number, page);
+}

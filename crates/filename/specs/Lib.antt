@@ -1,0 +1,9 @@
+pub mod Name
+pub mod Writing
+pub mod Reading
+pub mod Decimal
+pub mod Cases
+pub mod Places
+pub mod Names
+pub mod Proof
+pub mod Examples
