@@ -222,6 +222,10 @@ impl Gate {
             _ => return None,
         };
         self.takes_store = false;
+        assert!(
+            manager.is_within_bounds(),
+            "18 would come at the next event"
+        );
         print_answer(answer, printed);
         print_files(
             answer.map_or(&[], |accepted| &output[..accepted.octets]),

@@ -310,6 +310,25 @@ impl Manager {
         Ok(placed)
     }
 
+    /// Whether the state is within every bound of refusal 18. This manager owns its state and never
+    /// asks; a manager that is handed one asks at each event.
+    pub fn is_within_bounds(&self) -> bool {
+        let filters = |at: usize| {
+            let earlier = &self.routes[..at];
+            earlier
+                .iter()
+                .all(|route| route.filter() != self.routes[at].filter())
+        };
+        (1..=MOST_ROUTES).contains(&self.routes.len())
+            && self.node.offset.abs() <= WIDEST_OFFSET
+            && self.last <= LAST_MINUTE
+            && self
+                .routes
+                .iter()
+                .all(|route| route.is_within_bounds(self.last))
+            && (0..self.routes.len()).all(filters)
+    }
+
     /// The octets that a store must have.
     pub fn store_octets(&self) -> usize {
         self.regions
@@ -448,6 +467,32 @@ impl Route {
             note: false,
             file: None,
         })
+    }
+
+    fn is_within_bounds(&self, last: u32) -> bool {
+        let unused = self.filter.get(self.filter_octets..);
+        unused.is_some_and(|unused| unused.iter().all(|&octet| octet == 0))
+            && (LEAST_LIMIT..=LONGEST_FILE).contains(&self.limit)
+            && self
+                .file
+                .as_ref()
+                .is_none_or(|file| self.may_hold(file, last))
+    }
+
+    /// Whether an open file is one that this route can have at this last time.
+    fn may_hold(&self, file: &OpenFile, last: u32) -> bool {
+        let is_empty = file.count == 0;
+        file.opened <= file.appended
+            && file.appended <= last
+            && file.low <= file.high
+            && (!self.one_release || file.low == file.high)
+            && file.format <= 7
+            && self.octets_of(file.high, file.low, file.octets) <= self.limit
+            && 4 * file.count as usize <= file.octets
+            && (!is_empty || file.octets == 0)
+            && (!is_empty || file.appended == file.opened)
+            && (!is_empty || file.high == self.release && file.low == self.release)
+            && (self.most == 0 || file.count < self.most)
     }
 
     fn filter(&self) -> &[u8] {
@@ -1208,5 +1253,29 @@ mod tests {
         assert_eq!(desk.store[130..140], [0, 1, 0, 0, 3, 0, 1, 0, 0, 3]);
         let others = [&desk.store[..130], &desk.store[140..]].concat();
         assert!(others.iter().all(|&octet| octet == 0xA5));
+    }
+
+    #[test]
+    fn a_state_beyond_a_bound_is_told() {
+        let mut desk = Desk::new(&[plain()]);
+        assert_eq!(desk.place(4, 1, 10), PLACED);
+        let right = desk.manager;
+        assert!(right.is_within_bounds());
+        let breaks: [fn(&mut Manager); 9] = [
+            |m| m.routes.clear(),
+            |m| m.routes.push(m.routes[0].clone()),
+            |m| m.last = LAST_MINUTE + 1,
+            |m| m.node.offset = WIDEST_OFFSET + 1,
+            |m| m.routes[0].limit = LEAST_LIMIT - 1,
+            |m| m.routes[0].filter[19] = 1,
+            |m| m.routes[0].most = 1,
+            |m| m.routes[0].file.as_mut().unwrap().count = 100,
+            |m| m.routes[0].file.as_mut().unwrap().octets = LEAST_LIMIT,
+        ];
+        for (index, wrong) in breaks.iter().enumerate() {
+            let mut manager = right.clone();
+            wrong(&mut manager);
+            assert!(!manager.is_within_bounds(), "bound {index}");
+        }
     }
 }

@@ -2,11 +2,10 @@
 use mathlib.Core.Path.{_≡_, sym, ap, _∙_}
 use mathlib.Core.Bool.{Bool, false, cond, not, _&&_}
 use mathlib.Core.List.{List, [], _∷_}
-use Prim.Native.Nat.{ℕ, _≤_}
 use lib.Dec.{eqb, ltb, eqb·suc-zero}
 use lib.ListN.{length}
 use borrow.Author.Tests.{eqb-true, eq-eqb, ltb-false, le-ltb, not-false}
-use Rattle.timestamp.specs.Tests.{both}
+use Rattle.refusals.specs.Tests.{both}
 use Rattle.record.specs.declared.Release.{Release}
 use Rattle.record.specs.Release.{rank}
 use Rattle.record.specs.Record.{Record, highest, lowest}

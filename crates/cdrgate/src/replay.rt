@@ -1,5 +1,4 @@
 // The run: each line of the script is carried out on the manager, and its answer printed.
-ghost use Prim.Native.Nat.{_≤_};
 use gatescript::Command;
 use gatescript::next_command;
 use gatesteps::Run;
@@ -11,12 +10,10 @@ use gatesteps::run_store;
 use gatesteps::run_width;
 use gatesteps::start;
 use gatesteps::stopped;
-use textlines::flush;
+use textlines::LINES;
+use textlines::finish;
 use textlines::part;
-use textlines::print_error;
-
-// The most lines of a script.
-const LINES: u64 = 4000000000;
+use textlines::turns_of;
 
 fn carry_out(
     run: Run,
@@ -68,28 +65,6 @@ fn turn(
     carry_out(run, command, octets, store, output, page)
 }
 
-// The turns that a run may take, the past ones included: none once it has ended or cannot print, or one more than the lines
-// that are taken, which tells a script of more.
-fn turns_of(run: Run) -> u64
-    ensures { λ r. ⌜ r ≤ 4000000001 ⌝ }
-{
-    if run.is_going & run.printer.works {
-        LINES + 1
-    } else {
-        0
-    }
-}
-
-// Writes out the last page, with the error on it if the run has ended at a wrong line, the one of this number.
-fn finish(run: Run, number: u64, page: &mut [u8]) {
-    if run.is_wrong {
-        let printer = print_error(page, run.printer, number);
-        flush(page, printer);
-    } else {
-        flush(page, run.printer);
-    }
-}
-
 // Replays the script.
 pub fn replay(
     input: &mut [u8],
@@ -101,9 +76,9 @@ pub fn replay(
 ) {
     let mut run = start();
     let mut number: u64 = 0;
-    while number < turns_of(run) {
+    while number < turns_of(run.is_going, run.printer) {
         number += 1;
         run = turn(run, number, input, line, octets, store, output, page);
     }
-    finish(run, number, page);
+    finish(page, run.printer, run.is_wrong, number);
 }

@@ -1,19 +1,16 @@
 // A run: the lines in order, each answered, up to a wrong one.
-ghost use Prim.Native.Nat.{_≤_};
 use crate::answers::print_read;
 use crate::answers::print_written;
 use crate::asked::Asked;
 use crate::asked::asked_by;
+use textlines::LINES;
 use textlines::Printer;
 use textlines::Source;
 use textlines::Taken;
-use textlines::flush;
+use textlines::finish;
 use textlines::part;
-use textlines::print_error;
 use textlines::take_line;
-
-// The most lines: the loop must be shown to end.
-const LINES: u64 = 4000000000;
+use textlines::turns_of;
 
 // What is left of the input's buffer, what stands on the page, whether lines go on, and whether a wrong one ended them.
 struct Run {
@@ -35,17 +32,15 @@ fn start() -> Run {
     }
 }
 
-fn ended(run: Run, is_wrong: bool) -> Run {
-    let mut next = run;
-    next.is_going = false;
-    next.is_wrong = is_wrong;
-    next
+fn ended(mut run: Run, is_wrong: bool) -> Run {
+    run.is_going = false;
+    run.is_wrong = is_wrong;
+    run
 }
 
-fn printed(run: Run, printer: Printer) -> Run {
-    let mut next = run;
-    next.printer = printer;
-    next
+fn printed(mut run: Run, printer: Printer) -> Run {
+    run.printer = printer;
+    run
 }
 
 fn answer(run: Run, line: &[u8], page: &mut [u8]) -> Run {
@@ -82,34 +77,12 @@ fn turn(run: Run, number: u64, input: &mut [u8], line: &mut [u8], page: &mut [u8
     }
 }
 
-// The turns that a run may take, the past ones included: none once it has ended or cannot print, or one more than the lines
-// that are taken, which tells a script of more.
-fn turns_of(run: Run) -> u64
-    ensures { λ r. ⌜ r ≤ 4000000001 ⌝ }
-{
-    if run.is_going & run.printer.works {
-        LINES + 1
-    } else {
-        0
-    }
-}
-
-// Prints the error of a run that has ended at the line of this number, and writes out the last page.
-fn finish(run: Run, number: u64, page: &mut [u8]) {
-    if run.is_wrong {
-        let printer = print_error(page, run.printer, number);
-        flush(page, printer);
-    } else {
-        flush(page, run.printer);
-    }
-}
-
 pub fn answer_all(input: &mut [u8], line: &mut [u8], page: &mut [u8]) {
     let mut run = start();
     let mut number: u64 = 0;
-    while number < turns_of(run) {
+    while number < turns_of(run.is_going, run.printer) {
         number += 1;
         run = turn(run, number, input, line, page);
     }
-    finish(run, number, page);
+    finish(page, run.printer, run.is_wrong, number);
 }

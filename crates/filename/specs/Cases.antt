@@ -1,7 +1,7 @@
 -- The cases of writing and reading a name, one for each way out of the calls, and the length of a name (Name, Writing, Reading).
 -- Assumes nothing.
 use mathlib.Core.Path.{_≡_, refl, sym, ap, _∙_}
-use mathlib.Core.Bool.{Bool, true, false, cond, not, _&&_}
+use mathlib.Core.Bool.{Bool, true, false, cond, _&&_}
 use mathlib.Core.List.{List, [], _∷_, _++_, append-assoc}
 use Prim.Native.Nat.{ℕ, _+_, _≤_, _<_, _-_, min}
 use native.Mathlib.Decide.{decLt}
@@ -11,9 +11,8 @@ use lib.ListN.{length, take, drop, length-append, length-drop, drop-of-length-le
 use lib.Seq.{take-length, take-all}
 use borrow.Author.Tests.{lt-ltb, le-ltb, eq-eqb, ne-eqb, eqb-true, leb-true}
 use Rattle.octets.specs.Splice.{splice, splice-then, splice-there}
-use Rattle.timestamp.specs.Tests.{both, each}
+use Rattle.refusals.specs.Tests.{both, each}
 use Rattle.filename.specs.declared.Fields.{Fields}
-use Rattle.filename.specs.declared.Written.{Written}
 use Rattle.filename.specs.declared.Name.{Name}
 use Rattle.filename.specs.Name.{plain, nodeRight, fieldsTests, fieldsRight, privateRight, right, width, decimal, delimiter, closing, privatePart, spelled}
 use Rattle.filename.specs.Decimal.{digits-length}

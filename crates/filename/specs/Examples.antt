@@ -2,7 +2,7 @@
 -- names are right, and which fields they say. Assumes nothing.
 use mathlib.Core.Path.{_≡_, refl}
 use mathlib.Core.List.{List, [], _∷_, _++_}
-use Prim.Native.Nat.{ℕ}
+use Prim.Native.Nat.{ℕ, zero, suc}
 use Rattle.filename.specs.declared.Fields.{Fields}
 use Rattle.filename.specs.declared.Name.{Name}
 use Rattle.filename.specs.Name.{fieldsRight, right, spelled}
@@ -52,6 +52,28 @@ leadingZero = 65 ∷ 95 ∷ 45 ∷ 95 ∷ 48 ∷ 49 ∷ 46 ∷ 49 ∷ 57 ∷ 57 
 abbrev pub tooLate : List ℕ
 tooLate = 65 ∷ 95 ∷ 45 ∷ 95 ∷ 49 ∷ 46 ∷ 50 ∷ 49 ∷ 48 ∷ 49 ∷ 48 ∷ 49 ∷ 48 ∷ 49 ∷ 95 ∷ 45 ∷ 95 ∷ 48 ∷ 48 ∷ 48 ∷ 48 ∷ 43 ∷ 48 ∷ 48 ∷ 48 ∷ 48 ∷ []
 
+-- the edges of the lengths and of the count: n times A, and what stands behind the count in the names above
+abbrev letters : ℕ → List ℕ
+letters zero = []
+letters (suc n) = 65 ∷ letters n
+
+-- .19990101_-_0000+0000
+abbrev behindCount : List ℕ
+behindCount = 46 ∷ 49 ∷ 57 ∷ 57 ∷ 57 ∷ 48 ∷ 49 ∷ 48 ∷ 49 ∷ 95 ∷ 45 ∷ 95 ∷ 48 ∷ 48 ∷ 48 ∷ 48 ∷ 43 ∷ 48 ∷ 48 ∷ 48 ∷ 48 ∷ []
+
+abbrev pub nodeWith : ℕ → List ℕ
+nodeWith n = letters n ++ (95 ∷ 45 ∷ 95 ∷ 49 ∷ behindCount)
+
+abbrev pub privateWith : ℕ → List ℕ
+privateWith n = plusZero ++ (46 ∷ letters n)
+
+-- 4294967295 and one more
+abbrev pub lastCount : List ℕ
+lastCount = 65 ∷ 95 ∷ 45 ∷ 95 ∷ 52 ∷ 50 ∷ 57 ∷ 52 ∷ 57 ∷ 54 ∷ 55 ∷ 50 ∷ 57 ∷ 53 ∷ behindCount
+
+abbrev pub countBeyond : List ℕ
+countBeyond = 65 ∷ 95 ∷ 45 ∷ 95 ∷ 52 ∷ 50 ∷ 57 ∷ 52 ∷ 57 ∷ 54 ∷ 55 ∷ 50 ∷ 57 ∷ 54 ∷ behindCount
+
 abbrev fields : (count year month day hour minute sign devHour devMinute has : ℕ) → Fields
 fields count year month day hour minute sign devHour devMinute has =
     record {
@@ -82,6 +104,13 @@ pub record Examples : Type 0 where
   pub empty-private : readOf emptyPrivate ≡ noName
   pub leading-zero : readOf leadingZero ≡ noName
   pub too-late : readOf tooLate ≡ noName
+  pub node-20 : readOf (nodeWith 20) ≡ says 20 0 (fields 1 1999 1 1 0 0 1 0 0 0)
+  pub node-21 : readOf (nodeWith 21) ≡ noName
+  pub node-none : readOf (nodeWith 0) ≡ noName
+  pub private-32 : readOf (privateWith 32) ≡ says 1 32 (fields 1 1999 1 1 0 0 1 0 0 1)
+  pub private-33 : readOf (privateWith 33) ≡ noName
+  pub last-count : readOf lastCount ≡ says 1 0 (fields 4294967295 1999 1 1 0 0 1 0 0 0)
+  pub count-beyond : readOf countBeyond ≡ noName
 
 pub examples : Examples
 unfolding readOf judged right fieldsRight spelled same fieldsOf nodeOf privateOf
@@ -96,4 +125,11 @@ examples =
       empty-private = refl;
       leading-zero = refl;
       too-late = refl;
+      node-20 = refl;
+      node-21 = refl;
+      node-none = refl;
+      private-32 = refl;
+      private-33 = refl;
+      last-count = refl;
+      count-beyond = refl;
     }

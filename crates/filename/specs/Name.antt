@@ -5,13 +5,12 @@
 -- The running count has no leading zeros; the delimiter before it and before the time is underscore, minus, underscore; the
 -- private part has a point before it. The file extension is optional in the clause, so it is never there. Days are 1 to 31 in
 -- every month. The sign is a field: +0000 and -0000 are different names. Assumes nothing.
-use mathlib.Core.Path.{_≡_}
 use mathlib.Core.Bool.{Bool, true, cond, _&&_, _||_}
 use mathlib.Core.List.{List, [], _∷_, _++_}
 use Prim.Native.Nat.{ℕ, zero, suc, _+_, _/_, _%_, _^_}
 use lib.Dec.{leb, ltb, eqb}
 use lib.ListN.{length, getD}
-use Rattle.timestamp.specs.Tests.{allOf}
+use Rattle.refusals.specs.Tests.{allOf}
 use Rattle.filename.specs.declared.Fields.{Fields}
 
 -- an ASCII letter or digit: 0 to 9, A to Z, a to z

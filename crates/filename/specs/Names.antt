@@ -8,7 +8,7 @@
 -- `readOf` and `writeOf` are the definitions that the contracts of filename::read and filename::write cite, over every input;
 -- `right` and `spelled` (Name) are the grammar. Assumes nothing.
 use mathlib.Core.Path.{_≡_}
-use mathlib.Core.Bool.{true, false}
+use mathlib.Core.Bool.{true}
 use mathlib.Core.Logic.{_↔_}
 use mathlib.Core.List.{List, _++_}
 use Prim.Native.Nat.{ℕ, _-_, _≤_, _<_}

@@ -1,24 +1,22 @@
 -- Right fields are found again at the places that the reader takes them from (Reading): the laws under the reader's
 -- completeness. Assumes nothing.
-use mathlib.Core.Path.{_≡_, refl, sym, ap, subst, _∙_}
+use mathlib.Core.Path.{_≡_, refl, sym, ap, _∙_}
 use mathlib.Core.Bool.{Bool, true, false, cond, not, _&&_, true≢false}
 use mathlib.Core.List.{List, [], _∷_, _++_, append-assoc}
-use Prim.Native.Nat.{ℕ, zero, suc, _+_, _-_, _*_, _^_, _%_, _≤_, _<_}
+use Prim.Native.Nat.{ℕ, zero, suc, _+_, _-_, _*_, _^_, _≤_, _<_}
 use native.Mathlib.Decide.{decLt}
 use native.Mathlib.Nat.{mod-eq-of-lt}
-use native.Mathlib.Numerals.{add-one}
 use native.Mathlib.Omega.{arith}
 use lib.Dec.{eqb, leb, ltb}
-use lib.ListN.{length, getD, take, drop, length-append, List·getD-append}
+use lib.ListN.{length, getD, drop, length-append, List·getD-append}
 use lib.Seq.{getD-append-add, getD-at, take-at, drop-append-add}
 use borrow.Author.Tests.{eq-eqb, ne-eqb, eqb-true, leb-true, lt-ltb, le-ltb}
-use Rattle.octets.specs.Number.{octetsAt, octets-all}
-use Rattle.timestamp.specs.Tests.{both, each}
+use Rattle.refusals.specs.Tests.{both, each}
 use Rattle.filename.specs.declared.Fields.{Fields}
-use Rattle.filename.specs.Name.{letterOrDigit, plain, nodeRight, fieldsTests, fieldsRight, privateRight, right, digits, width, widthTo, decimal, delimiter, signOctet, closing, privatePart, spelled}
+use Rattle.filename.specs.Name.{letterOrDigit, plain, fieldsTests, fieldsRight, privateRight, right, digits, width, decimal, delimiter, signOctet, closing, privatePart, spelled}
 use Rattle.filename.specs.Decimal.{digits-length, width-holds, width-most, value-digits}
 use Rattle.filename.specs.Cases.{right-node, right-fields, right-private, node-short}
-use Rattle.filename.specs.Reading.{before, valueAt, nodeLength, countPlace, countLength, closingPlace, fieldsFrom, fieldsOf, nodeOf, privateOf, alike, same}
+use Rattle.filename.specs.Reading.{before, valueAt, nodeLength, countPlace, countLength, closingPlace, fieldsOf, nodeOf, privateOf}
 
 -- at most n octets
 pub before-most : (stop : ℕ) (xs : List ℕ) (k n : ℕ) → before stop xs k n ≤ n

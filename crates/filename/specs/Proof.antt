@@ -3,58 +3,30 @@
 use mathlib.Core.Path.{_≡_, refl, sym, ap, subst, _∙_}
 use mathlib.Core.Bool.{Bool, true, false, cond, _&&_}
 use mathlib.Core.Logic.{_↔_}
-use mathlib.Core.List.{List, _∷_, _++_, append-assoc}
-use Prim.Native.Nat.{ℕ, zero, suc, _+_, _-_, _≤_, _<_, min}
+use mathlib.Core.List.{List, _++_}
+use Prim.Native.Nat.{ℕ, _+_, _-_, _≤_, _<_, min}
 use native.Mathlib.Decide.{decLt, ℕ-discrete}
-use native.Mathlib.Numerals.{add-one}
 use native.Mathlib.Omega.{arith}
-use lib.Dec.{eqb, ltb}
-use lib.ListN.{length, getD, take, drop, length-append, length-take, length-drop}
-use lib.Seq.{take-at, take-length}
+use lib.Dec.{eqb}
+use lib.ListN.{length, take, drop, length-take, length-drop}
+use lib.Seq.{take-at}
 use borrow.Author.Tests.{eq-eqb, eqb-true}
-use Rattle.octets.specs.Number.{octetsAt, octets-all}
+use Rattle.octets.specs.Alike.{alike, alike-is, alike-self}
 use Rattle.octets.specs.Splice.{splice}
-use Rattle.timestamp.specs.Tests.{both}
-use Rattle.filename.specs.declared.Fields.{Fields}
+use Rattle.refusals.specs.Tests.{both}
 use Rattle.filename.specs.declared.Name.{Name}
 use Rattle.filename.specs.Name.{right, spelled}
-use Rattle.filename.specs.Writing.{After, after, answered, writeOf}
-use Rattle.filename.specs.Reading.{nodeLength, closingPlace, fieldsOf, nodeOf, privateOf, alike, same, named, noName, judged, readOf}
+use Rattle.filename.specs.Writing.{After, after, answered}
+use Rattle.filename.specs.Reading.{nodeLength, closingPlace, fieldsOf, nodeOf, privateOf, same, named, noName, judged, readOf}
 use Rattle.filename.specs.Cases.{write-wrong, write-short, write-done, judged-named, take-least, drop-least}
 use Rattle.filename.specs.Places.{fields-read, node-read, private-read}
 use Rattle.filename.specs.Names.{Parts, Right, spelling, Named, handedBack, writing, Names}
-
--- Octets that are alike are the same list.
-
-alike-each : (xs ys : List ℕ) (n i : ℕ) → alike xs ys n ≡ true → i < n → getD xs i 0 ≡ getD ys i 0
-alike-each xs ys zero i e l = let z : ⊥ = omega arith in absurd z
-alike-each xs ys (suc n) i e l =
-    let t = both (alike xs ys n) (eqb (getD xs n 0) (getD ys n 0)) e in
-    by (decLt i n) (λ h. alike-each xs ys n i (t .0) h) (eqb-true (getD xs n 0) (getD ys n 0) (t .1))
-  where
-    by : Dec (i < n) → (i < n → getD xs i 0 ≡ getD ys i 0) → getD xs n 0 ≡ getD ys n 0 → getD xs i 0 ≡ getD ys i 0
-    by (yes h) f g = f h
-    by (no h) f g = let e : i ≡ n = omega arith in rw e g
-
-octets-agree : (w k : ℕ) (xs ys : List ℕ) → ((i : ℕ) → i < k + w → getD xs i 0 ≡ getD ys i 0) → octetsAt w xs k ≡ octetsAt w ys k
-octets-agree zero k xs ys h = refl
-octets-agree (suc w) k xs ys h =
-    let first = h k (omega arith) in
-    let rest = octets-agree w (k + 1) xs ys (λ i l. h i (omega arith)) in
-    λ i. first i ∷ rest i
 
 same-is : (xs ys : List ℕ) → same xs ys ≡ true → xs ≡ ys
 unfolding same
 same-is xs ys e =
     let t = both (eqb (length xs) (length ys)) (alike xs ys (length xs)) e in
-    let l = eqb-true (length xs) (length ys) (t .0) in
-    sym (octets-all (length xs) xs refl)
-    ∙ octets-agree (length xs) 0 xs ys (λ i h. alike-each xs ys (length xs) i (t .1) (omega arith))
-    ∙ octets-all (length xs) ys (sym l)
-
-alike-self : (xs : List ℕ) (n : ℕ) → alike xs xs n ≡ true
-alike-self xs zero = refl
-alike-self xs (suc n) = rw (alike-self xs n, eq-eqb (getD xs n 0) (getD xs n 0) refl)
+    alike-is xs ys (eqb-true (length xs) (length ys) (t .0)) (t .1)
 
 same-self : (xs : List ℕ) → same xs xs ≡ true
 unfolding same

@@ -1,11 +1,12 @@
 -- The reader of names over any octets (document 02, ask 1): it takes fields from their places, and accepts them exactly when they
 -- are right and their spelling is the name; else 20. So a place that holds something else than the grammar asks need not be
 -- judged where it is read: its fields have another spelling. Assumes nothing.
-use mathlib.Core.Bool.{Bool, true, cond, not, _&&_}
-use mathlib.Core.List.{List, []}
+use mathlib.Core.Bool.{Bool, cond, not, _&&_}
+use mathlib.Core.List.{List}
 use Prim.Native.Nat.{ℕ, zero, suc, _+_, _-_, _*_, _^_}
 use lib.Dec.{ltb, eqb}
 use lib.ListN.{length, getD, take, drop}
+use Rattle.octets.specs.Alike.{alike}
 use Rattle.filename.specs.declared.Fields.{Fields}
 use Rattle.filename.specs.declared.Name.{Name}
 use Rattle.filename.specs.Name.{right, spelled}
@@ -61,10 +62,6 @@ unfoldable pub privateOf : List ℕ → List ℕ
 privateOf xs = drop (closingPlace xs + 22) xs
 
 -- two lists are the same octets
-abbrev pub alike : List ℕ → List ℕ → ℕ → Bool
-alike xs ys zero = true
-alike xs ys (suc n) = alike xs ys n && eqb (getD xs n 0) (getD ys n 0)
-
 unfoldable pub same : List ℕ → List ℕ → Bool
 same xs ys = eqb (length xs) (length ys) && alike xs ys (length xs)
 

@@ -1,7 +1,7 @@
 -- The writer of names over any fields, node identifier, private part and output (document 02, ask 1): 20 where something is out
 -- of range, then 21 where the output is shorter than the name, with the output unchanged; or the name over the start of the
 -- output, and the octets behind it stay. Assumes nothing.
-use mathlib.Core.Bool.{Bool, not}
+use mathlib.Core.Bool.{not}
 use mathlib.Core.List.{List, [], _∷_}
 use Prim.Native.Nat.{ℕ, zero, suc}
 use lib.Dec.{ltb}

@@ -8,9 +8,8 @@ ghost use mathlib.Core.Path.{_≡_};
 ghost use mathlib.Core.Bool.{cond, _&&_};
 ghost use Prim.Native.Nat.{suc, _+_, _-_, _≤_, _<_, _*_, _^_, min};
 ghost use lib.Dec.{eqb};
-ghost use lib.ListN.{length, getD};
-ghost use Rattle.filename.specs.Name.{right, spelled};
-ghost use Rattle.filename.specs.Reading.{before, valueAt, fieldsFrom, alike, same, noName, judged, readOf};
+ghost use lib.ListN.{getD};
+ghost use Rattle.filename.specs.Reading.{before, valueAt, fieldsFrom, same, noName, judged, readOf};
 
 // The octet of the name at k; 0 behind its end, which no name has.
 fn octet_at(name: &[u8], k: usize) -> u8
@@ -109,25 +108,11 @@ fn fields_at(name: &[u8], count: u32, at: usize) -> Fields
     }
 }
 
-// Whether the first n octets of two slices are the same.
-fn are_alike(a: &[u8], b: &[u8], n: usize) -> bool
-    requires { ⌜ (n ≤ length (now a)) × (n ≤ length (now b)) ⌝ }
-    ensures { λ r. ⌜ r ≡ alike (now (a .entry)) (now (b .entry)) n ⌝ }
-{
-    let mut all = true;
-    let mut i: usize = 0;
-    while i < n {
-        all = all & (a[i] == b[i]);
-        i += 1;
-    }
-    all
-}
-
 fn are_same(a: &[u8], b: &[u8]) -> bool
     ensures { λ r. ⌜ r ≡ same (now (a .entry)) (now (b .entry)) ⌝ }
 {
     if a.len() == b.len() {
-        return are_alike(a, b, a.len());
+        return octets::are_alike(a, b, a.len());
     }
     false
 }

@@ -1,16 +1,16 @@
 -- When a manager and its store agree with a ledger: the relation that every event keeps. The state's counters are the ledger's,
 -- and an open file's records stand in its region of the store, one behind another. Assumes nothing.
 use mathlib.Core.Path.{_≡_}
-use mathlib.Core.Bool.{Bool, true, false}
+use mathlib.Core.Bool.{true, false}
 use mathlib.Core.List.{List, [], _∷_}
-use Prim.Native.Nat.{ℕ, _+_, _≤_, _<_, _^_}
+use Prim.Native.Nat.{ℕ, _<_, _^_}
 use lib.ListN.{length, take, drop}
 use Rattle.octets.specs.Number.{Octets}
 use Rattle.record.specs.Record.{Record, AllRight, recordsOctets}
 use Rattle.state.specs.declared.RouteSettings.{RouteSettings}
 use Rattle.state.specs.declared.Route.{Route}
 use Rattle.state.specs.declared.Manager.{Manager}
-use Rattle.state.specs.Manager.{routeAt, base, regions}
+use Rattle.state.specs.Manager.{routeAt, base}
 use Rattle.state.specs.Bounds.{stateRight}
 use Rattle.ledger.specs.Ledger.{OpenFile, Current, none, some, Line, Ledger, lineAt, highest, lowest}
 

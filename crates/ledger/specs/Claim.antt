@@ -1,35 +1,21 @@
 -- From one event to any list of them, and from the ledger's books to demand 3's statement. Assumes nothing.
 use mathlib.Core.Path.{_≡_, refl, sym, ap, _∙_, subst}
-use mathlib.Core.Bool.{Bool, true, false, cond, not, _&&_}
-use mathlib.Core.List.{List, [], _∷_, _++_}
-use Prim.Native.Nat.{ℕ, zero, suc, _+_, _≤_, _<_}
+use mathlib.Core.Bool.{Bool, true, false, cond}
+use mathlib.Core.List.{List, [], _∷_}
+use Prim.Native.Nat.{ℕ}
 use native.Mathlib.Omega.{arith}
-use lib.Dec.{eqb}
-use lib.ListN.{length, take, drop}
-use Rattle.octets.specs.Splice.{splice, splice-length}
-use Rattle.refusals.specs.Refusal.{Rule, _when_, first}
-use Rattle.record.specs.declared.Tallied.{Tallied}
-use Rattle.record.specs.Record.{Record, recordsOctets}
-use Rattle.record.specs.Walk.{records, walkOf, tallied, tallyOf}
-use Rattle.record.specs.Format.{walks}
-use Rattle.cdrfile.specs.File.{File, layout, RightFile}
-use Rattle.reader.specs.declared.Contents.{Contents}
-use Rattle.reader.specs.Reader.{bodyOf, contentsOf, readOf}
-use Rattle.roundtrip.specs.Handed.{handedBack}
-use Rattle.roundtrip.specs.Accepted.{accepts}
-use Rattle.roundtrip.specs.Complete.{complete, handed-again}
-use Rattle.state.specs.declared.Route.{Route}
+use lib.ListN.{length}
+use Rattle.octets.specs.Splice.{splice-length}
+use Rattle.refusals.specs.Refusal.{Rule, first}
 use Rattle.state.specs.declared.Manager.{Manager}
-use Rattle.state.specs.Manager.{routeAt, base}
 use Rattle.manager.specs.declared.Answer.{Answer}
-use Rattle.manager.specs.Events.{After}
 use Rattle.ledger.specs.Event.{Event, OPEN, CLOSE, TICK, RECEIVE, Lent}
-use Rattle.ledger.specs.Ledger.{Current, none, some, Line, Ledger, lineAt, recordsIn, recordsOf, Closing, Entry, rules, refusal, answerOf, entryOf}
+use Rattle.ledger.specs.Ledger.{Ledger, rules, refusal, answerOf, entryOf}
 use Rattle.ledger.specs.Run.{happens, runOf, Booked, booked, booksOf, joined, endOf, storeAfter, ledgerAfter}
-use Rattle.ledger.specs.Agrees.{Agrees, AgreesLine, AgreesFile}
-use Rattle.ledger.specs.Books.{flat, held, answer-refusal}
+use Rattle.ledger.specs.Agrees.{Agrees}
+use Rattle.ledger.specs.Books.{answer-refusal}
 use Rattle.ledger.specs.Steps.{AllRightFiles, Holds}
-use Rattle.ledger.specs.Demand3.{Given, AllGiven, Answered, counted, walked, AllAccepted, onRoute, closedOn, openCount, standing}
+use Rattle.ledger.specs.Demand3.{Given, AllGiven, Answered}
 
 -- 18 is no rule of the ledger's.
 abbrev Never : ℕ → List Rule → Type 0

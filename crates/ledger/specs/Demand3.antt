@@ -9,15 +9,15 @@
 -- closed files, as the reader counts them, those in its open file, as the state counts them, and those lost, counted in the list
 -- by the loss rule. The other received records stand in its closed files in order of closing and then in the open file's part of
 -- the store, in order of receipt, octet for octet. Every closed file is accepted by the reader, with the fields and records that
--- the ledger gives. Open count, loss counters and unrouted counter in the state are the ledger's, and the accepted unrouted
--- records of the list number the unrouted counter.
+-- the ledger gives. Open count, loss counters and unrouted counter in the state are the ledger's; its received and lost records
+-- are those counted in the list, and the accepted unrouted records of the list number the unrouted counter.
 --
 -- `freshOf`, `openOf`, `closeOf`, `tickOf` and `receiveOf`, of which `happens` and `runOf` are made, are the definitions that the
 -- contracts of the calls cite. Assumes nothing.
 use mathlib.Core.Path.{_≡_}
 use mathlib.Core.Bool.{Bool, true, false, cond, not, _&&_}
 use mathlib.Core.List.{List, [], _∷_, _++_}
-use Prim.Native.Nat.{ℕ, zero, suc, _+_, _≤_, _<_, _^_}
+use Prim.Native.Nat.{ℕ, _+_, _≤_, _<_}
 use lib.Dec.{eqb}
 use lib.ListN.{length, take, drop}
 use Rattle.octets.specs.Number.{Octets}
@@ -32,12 +32,11 @@ use Rattle.state.specs.declared.Manager.{Manager}
 use Rattle.state.specs.Manager.{routeAt, base}
 use Rattle.settings.specs.Settings.{freshOf}
 use Rattle.manager.specs.declared.Answer.{Answer}
-use Rattle.manager.specs.declared.Arrival.{Arrival}
 use Rattle.manager.specs.Events.{After}
 use Rattle.manager.specs.Receive.{recordOf}
 use Rattle.ledger.specs.Event.{Event, OPEN, CLOSE, TICK, RECEIVE, Lent}
-use Rattle.ledger.specs.Ledger.{Ledger, Line, lineAt, Closing, Entry, routedTo, lostBy, recordsOf}
-use Rattle.ledger.specs.Run.{happens, runOf, Booked, booksOf, joined, endOf, storeAfter, ledgerAfter, ledgerFrom}
+use Rattle.ledger.specs.Ledger.{Ledger, lineAt, Closing, routedTo, lostBy, recordsOf}
+use Rattle.ledger.specs.Run.{runOf, Booked, booksOf, joined, endOf, storeAfter, ledgerAfter, ledgerFrom}
 
 -- an event as the machine can be given it: octets are below 256, a record's extension too
 abbrev pub Given : Event → Type 0
@@ -172,6 +171,10 @@ pub record Demand3 (m : Manager) (l : Ledger) (store : List ℕ) (es : List Lent
   pub counters : (i : ℕ) → i < m .count
       → (openCount (routeAt (endOf m store es) i) ≡ length (recordsOf (lineAt (ledgerAfter l (length store) es) i)))
       × (routeAt (endOf m store es) i .losses ≡ lineAt (ledgerAfter l (length store) es) i .losses)
+  -- and the ledger's own counts of received and lost records are those of the list
+  pub booked : (i : ℕ) → i < m .count
+      → (lineAt (ledgerAfter l (length store) es) i .received ≡ received l i es (runOf m store es))
+      × (lineAt (ledgerAfter l (length store) es) i .lost ≡ lost l i es (runOf m store es))
   pub unrouted-counter : endOf m store es .unrouted ≡ ledgerAfter l (length store) es .unrouted
   pub unrouted-listed : endOf m store es .unrouted ≡ unrouted l es (runOf m store es)
 

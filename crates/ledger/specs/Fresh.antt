@@ -1,19 +1,17 @@
 -- The fresh manager of accepted settings agrees with the fresh ledger. Assumes nothing.
 use mathlib.Core.Path.{_≡_, refl, sym, ap, _∙_, subst}
-use mathlib.Core.Bool.{false}
-use mathlib.Core.List.{List, [], _∷_, _++_}
-use Prim.Native.Nat.{ℕ, zero, suc, _+_, _≤_, _<_}
+use mathlib.Core.List.{List, [], _∷_}
+use Prim.Native.Nat.{ℕ, zero, suc, _+_, _<_}
 use native.Mathlib.Omega.{arith}
 use native.Mathlib.Decide.{ℕ-discrete}
 use lib.ListN.{length, getD, length-append, List·getD-append}
 use lib.Seq.{getD-at}
-use Rattle.octets.specs.Number.{num, octetsAt, Octets, num-lt, octetsAt-length, octetsAt-octets}
+use Rattle.octets.specs.Number.{Octets, num-lt, octetsAt-length, octetsAt-octets}
 use Rattle.state.specs.declared.Route.{Route}
-use Rattle.state.specs.declared.Manager.{Manager}
-use Rattle.state.specs.Manager.{routeAt, base}
-use Rattle.settings.specs.Settings.{routesIn, routeStart, settingsFrom, routeFrom, managerFrom, verdict, freshOf}
-use Rattle.settings.specs.Accepted.{routes-length, route-from, refusal-is, accepted-right, accepted-route, accepted}
-use Rattle.ledger.specs.Ledger.{Line, Ledger, lineAt, noLine}
+use Rattle.state.specs.Manager.{base}
+use Rattle.settings.specs.Settings.{routesIn, routeStart, routeFrom, managerFrom, verdict, freshOf}
+use Rattle.settings.specs.Accepted.{routes-length, refusal-is, accepted-right, accepted-route}
+use Rattle.ledger.specs.Ledger.{lineAt, noLine}
 use Rattle.ledger.specs.Run.{lineFrom, linesFrom, ledgerFrom}
 use Rattle.ledger.specs.Agrees.{Agrees, AgreesLine}
 use Rattle.ledger.specs.Books.{fresh-length}

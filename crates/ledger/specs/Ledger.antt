@@ -11,7 +11,6 @@ use lib.ListN.{length, getD, set}
 use Rattle.refusals.specs.Refusal.{Rule, _when_, first}
 use Rattle.timestamp.specs.LocalTime.{timestampOf}
 use Rattle.record.specs.declared.Release.{Release}
-use Rattle.record.specs.declared.RecordHeader.{RecordHeader}
 use Rattle.record.specs.Record.{Record, recordsOctets}
 use Rattle.cdrfile.specs.File.{File, layout}
 use Rattle.state.specs.declared.RouteSettings.{RouteSettings}

@@ -3,7 +3,7 @@
 use mathlib.Core.Path.{_≡_, refl, sym, ap, _∙_, subst}
 use mathlib.Core.Bool.{Bool, true, false, cond}
 use mathlib.Core.List.{List, [], _∷_, _++_}
-use Prim.Native.Nat.{ℕ, zero, suc, _+_, _≤_, _<_}
+use Prim.Native.Nat.{ℕ, zero, suc, _+_, _<_}
 use native.Mathlib.Omega.{arith}
 use lib.Dec.{eqb}
 use lib.ListN.{length, take, drop}
@@ -14,7 +14,7 @@ use Rattle.record.specs.Walk.{records, walkOf, tallied, tallyOf}
 use Rattle.record.specs.Format.{walks}
 use Rattle.cdrfile.specs.File.{File, layout, RightFile}
 use Rattle.reader.specs.declared.Contents.{Contents}
-use Rattle.reader.specs.Reader.{bodyOf, contentsOf, readOf}
+use Rattle.reader.specs.Reader.{contentsOf, readOf}
 use Rattle.roundtrip.specs.Handed.{handedBack}
 use Rattle.roundtrip.specs.Accepted.{accepts}
 use Rattle.roundtrip.specs.Complete.{complete, handed-again}
@@ -23,17 +23,17 @@ use Rattle.state.specs.declared.Manager.{Manager}
 use Rattle.state.specs.Manager.{routeAt, base}
 use Rattle.settings.specs.Settings.{routesIn, managerFrom, settled, verdict, freshOf}
 use Rattle.ledger.specs.Event.{OPEN, CLOSE, TICK, RECEIVE, Lent}
-use Rattle.ledger.specs.Ledger.{Current, none, some, Line, Ledger, lineAt, recordsIn, recordsOf, Closing}
+use Rattle.ledger.specs.Ledger.{Current, none, some, lineAt, recordsIn, recordsOf, Closing}
 use Rattle.ledger.specs.Run.{runOf, Booked, booksOf, endOf, storeAfter, ledgerAfter, ledgerFrom}
-use Rattle.ledger.specs.Agrees.{Agrees, AgreesLine, AgreesFile}
-use Rattle.ledger.specs.Books.{flat, held, same-length, after-same, fresh-length, received-booked, lost-booked, unrouted-booked, placed-booked, fresh-closed, fresh-records, fresh-sum, fresh-unrouted}
+use Rattle.ledger.specs.Agrees.{AgreesLine, AgreesFile}
+use Rattle.ledger.specs.Books.{flat, held, same-length, after-same, fresh-length, received-booked, lost-booked, unrouted-booked, placed-booked, fresh-received, fresh-lost, fresh-closed, fresh-records, fresh-sum, fresh-unrouted}
 use Rattle.ledger.specs.Steps.{AllRightFiles, open-holds}
 use Rattle.ledger.specs.StepClose.{close-holds}
 use Rattle.ledger.specs.StepTick.{tick-holds}
 use Rattle.ledger.specs.StepReceive.{receive-holds}
-use Rattle.ledger.specs.Claim.{AllRightBooks, Runs, EventHolds, runs}
+use Rattle.ledger.specs.Claim.{AllRightBooks, EventHolds, runs}
 use Rattle.ledger.specs.Fresh.{fresh-agrees}
-use Rattle.ledger.specs.Demand3.{AllGiven, counted, walked, AllAccepted, onRoute, closedOn, openCount, standing, Demand3, Claim}
+use Rattle.ledger.specs.Demand3.{AllGiven, counted, walked, AllAccepted, onRoute, closedOn, openCount, Demand3, Claim}
 
 -- A right file as the reader reads it.
 module _ (f : File) (r : RightFile f) where
@@ -126,6 +126,10 @@ from-fresh step xs store es o e g =
           );
       accepted = λ i h. all-accepted (closedOn i bs) (closed-right i bs (w .right));
       counters = λ i h. (count-same (storeAfter m store es) (base end i) (routeAt end i) (lineAt z i .current) (line i h .file), line i h .losses);
+      booked = λ i h. (
+        fresh-received xs n es i h ∙ sym (received-booked l es done bs (w .answered) i),
+        fresh-lost xs n es i h ∙ sym (lost-booked l es done bs (w .answered) i),
+      );
       unrouted-counter = w .agrees .unrouted;
       unrouted-listed = w .agrees .unrouted ∙ fresh-unrouted xs n es ∙ sym (unrouted-booked l es done bs (w .answered));
     }

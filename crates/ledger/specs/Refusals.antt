@@ -1,28 +1,25 @@
 -- The manager's refusals are the ledger's: where both agree, each condition of one list is that of the other, and 18 does not
 -- apply. Assumes nothing.
 use mathlib.Core.Path.{_≡_, refl, sym, ap, _∙_}
-use mathlib.Core.Bool.{Bool, true, false, cond, not, _&&_}
-use mathlib.Core.List.{List, [], _∷_, _++_}
+use mathlib.Core.Bool.{Bool, true, false, cond, not}
+use mathlib.Core.List.{List, [], _∷_}
 use Prim.Native.Nat.{ℕ, zero, suc, _≤_, _<_}
 use native.Mathlib.Omega.{arith}
 use lib.Dec.{ltb, leb, eqb}
 use lib.ListN.{length}
 use borrow.Author.Tests.{leb-false, le-ltb}
 use Rattle.refusals.specs.Refusal.{Rule, _when_, first}
-use Rattle.state.specs.declared.RouteSettings.{RouteSettings}
-use Rattle.state.specs.declared.Routed.{Routed}
 use Rattle.state.specs.declared.Manager.{Manager}
-use Rattle.state.specs.Manager.{routeAt, settingsAt, regions}
+use Rattle.state.specs.Manager.{routeAt, regions}
 use Rattle.state.specs.Routing.{nobody, better, among, routeOf}
 use Rattle.state.specs.Bounds.{stateRight}
 use Rattle.manager.specs.declared.Arrival.{Arrival}
-use Rattle.manager.specs.Rules.{allowed, wrongFields}
+use Rattle.manager.specs.Rules.{allowed}
 use Rattle.manager.specs.Rules.{routedTo as managerRoutes}
-use Rattle.manager.specs.Events.{common, openRules, closeRules, tickRules}
-use Rattle.manager.specs.Receive.{isLost, receiveRules}
+use Rattle.manager.specs.Events.{common, openRules}
 use Rattle.manager.specs.Receive.{countersFull as managerFull}
-use Rattle.ledger.specs.Event.{Event, OPEN, CLOSE, TICK, RECEIVE}
-use Rattle.ledger.specs.Ledger.{Ledger, lineAt, isOpen, amongLines, routedTo, lostBy, countersFull, neededBy, rules, refusal}
+use Rattle.ledger.specs.Event.{OPEN, CLOSE, TICK}
+use Rattle.ledger.specs.Ledger.{Ledger, lineAt, isOpen, amongLines, routedTo, neededBy, refusal}
 use Rattle.ledger.specs.Ledger.{regions as lineRegions}
 use Rattle.ledger.specs.Agrees.{Agrees}
 use Rattle.ledger.specs.Regions.{regions-same}

@@ -2,25 +2,18 @@
 -- ledger of demand 3): regions do not overlap, so what is written to one route's region leaves the others' files; a change of one
 -- route and its line keeps the relation; and the bounds of a state that agrees, as facts. Assumes nothing.
 use mathlib.Core.Path.{_≡_, refl, sym, ap, _∙_, subst}
-use mathlib.Core.Bool.{Bool, true, false, not, _&&_, _||_}
+use mathlib.Core.Bool.{true}
 use mathlib.Core.List.{List, [], _∷_}
-use Prim.Native.Nat.{ℕ, zero, suc, _+_, _*_, _-_, _≤_, _<_, min}
+use Prim.Native.Nat.{ℕ, zero, suc, _+_, _-_, _≤_, _<_}
 use native.Mathlib.Omega.{arith}
-use native.Mathlib.Nat.{add-zero, add-suc}
 use native.Mathlib.Decide.{ℕ-discrete, decLt}
-use lib.Dec.{ltb, leb, eqb}
 use lib.ListN.{length, getD, set, take, drop, length-set, List·getD-map}
 use lib.Seq.{getD-set-same, getD-set-other, map-set-same, take-add, take-all, drop-at, length-take-le}
-use borrow.Author.Tests.{leb-true, ltb-true, eqb-true, eq-eqb, ne-eqb}
 use Rattle.octets.specs.Splice.{splice, splice-length, splice-take, splice-drop}
-use Rattle.timestamp.specs.Tests.{both, each}
-use Rattle.record.specs.Release.{narrowRelease, rank}
 use Rattle.state.specs.declared.RouteSettings.{RouteSettings}
-use Rattle.state.specs.declared.OpenFile.{OpenFile}
 use Rattle.state.specs.declared.Route.{Route}
 use Rattle.state.specs.declared.Manager.{Manager}
 use Rattle.state.specs.Manager.{noRoute, routeAt, settingsAt, base, regions, withRoute, withTime}
-use Rattle.state.specs.Size.{headerSize}
 use Rattle.state.specs.Bounds.{settingsRight, fileRight, routeRight, stateRight}
 use Rattle.state.specs.Within.{SettingsWithin, within-settings, FileWithin, within-file, within-route, within}
 pub use Rattle.state.specs.Regions.{region-within}

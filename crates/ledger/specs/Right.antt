@@ -1,23 +1,21 @@
 -- What the events do to a route keeps it within its bounds (refusal 18): 18 never comes. Assumes nothing.
 use mathlib.Core.Path.{_≡_, refl, sym, ap, _∙_}
-use mathlib.Core.Bool.{Bool, true, false, cond, not, _&&_, _||_}
-use mathlib.Core.List.{List, [], _∷_}
+use mathlib.Core.Bool.{Bool, true, false, cond, not, _||_}
+use mathlib.Core.List.{[], _∷_}
 use Prim.Native.Nat.{ℕ, _+_, _*_, _≤_, _<_, max, min}
 use native.Mathlib.Omega.{arith}
 use native.Mathlib.Decide.{ℕ-discrete}
-use lib.Dec.{ltb, leb, eqb}
+use lib.Dec.{ltb, eqb}
 use lib.ListN.{length}
 use borrow.Author.Tests.{le-leb, lt-ltb, eq-eqb, ne-eqb, eqb-true, eqb-false, ltb-true, ltb-false}
-use Rattle.timestamp.specs.Tests.{allOf, both}
 use Rattle.record.specs.declared.Release.{Release}
 use Rattle.record.specs.declared.RecordHeader.{RecordHeader}
 use Rattle.record.specs.Release.{narrowRelease, rank, extensionOctets}
 use Rattle.state.specs.declared.RouteSettings.{RouteSettings}
 use Rattle.state.specs.declared.OpenFile.{OpenFile}
-use Rattle.state.specs.declared.Route.{Route}
 use Rattle.state.specs.Size.{headerSize}
-use Rattle.state.specs.Bounds.{settingsRight, sameRelease, fileTests, fileRight, routeRight}
-use Rattle.manager.specs.Rules.{openedFile, openedRoute, closedRoute, lostRoute, notedRoute, later, earlier, highWith, lowWith, appendedFile, appendedRoute}
+use Rattle.state.specs.Bounds.{sameRelease, fileRight}
+use Rattle.manager.specs.Rules.{openedFile, later, earlier, highWith, lowWith, appendedFile}
 
 -- a disjunction with a true side
 or-true : (a : Bool) {b : Bool} → b ≡ true → (a || b) ≡ true

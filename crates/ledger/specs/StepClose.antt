@@ -1,35 +1,34 @@
 -- One event (Steps): CLOSE, and what every closing needs: the file that the manager writes is the ledger's, and it is right.
 -- Assumes nothing.
 use mathlib.Core.Path.{_≡_, refl, sym, ap, _∙_, subst}
-use mathlib.Core.Bool.{Bool, true, false, cond, not, _&&_, _||_, false≢true}
-use mathlib.Core.List.{List, [], _∷_, _++_, append-nil}
-use Prim.Native.Nat.{ℕ, zero, suc, _+_, _≤_, _<_, max}
+use mathlib.Core.Bool.{Bool, true, false, not, _&&_, _||_, false≢true}
+use mathlib.Core.List.{List, [], _∷_, append-nil}
+use Prim.Native.Nat.{ℕ, _≤_, _<_}
 use native.Mathlib.Nat.{add-zero}
 use native.Mathlib.Omega.{arith}
 use lib.Dec.{ltb, leb, eqb}
 use lib.ListN.{length}
 use borrow.Author.Tests.{ltb-false, leb-false, leb-true, eqb-true, not-false}
 use Rattle.octets.specs.Splice.{splice}
-use Rattle.refusals.specs.Refusal.{Rule, _when_, first, passed, or-false}
-use Rattle.timestamp.specs.Tests.{both}
+use Rattle.refusals.specs.Refusal.{Rule, _when_, first, passed}
+use Rattle.refusals.specs.Tests.{both}
 use Rattle.record.specs.Release.{NarrowRelease}
 use Rattle.record.specs.Order.{narrowed}
-use Rattle.cdrfile.specs.File.{File, layout, RightFile}
+use Rattle.cdrfile.specs.File.{layout, RightFile}
 use Rattle.octets.specs.Number.{Octets}
 use Rattle.state.specs.declared.RouteSettings.{RouteSettings}
-use Rattle.state.specs.declared.Route.{Route}
 use Rattle.state.specs.declared.Manager.{Manager}
 use Rattle.state.specs.Manager.{routeAt, settingsAt, base, regions, effective}
 use Rattle.state.specs.Bounds.{routeRight, stateRight}
 use Rattle.filing.specs.Closing.{closedFile, closedSize}
 use Rattle.manager.specs.Rules.{closedRoute, allowed}
-use Rattle.manager.specs.Events.{After, answered, common, closeRules, closed, closeOf}
-use Rattle.ledger.specs.Event.{Event, CLOSE}
-use Rattle.ledger.specs.Ledger.{OpenFile, Current, none, some, Line, Ledger, lineAt, isOpen, Entry, lengths, fileFrom, closeLine, closeEntry, carried, neededBy, refusal, answerOf, entryOf}
+use Rattle.manager.specs.Events.{answered, closeRules, closed, closeOf}
+use Rattle.ledger.specs.Event.{CLOSE}
+use Rattle.ledger.specs.Ledger.{OpenFile, Current, none, some, Ledger, lineAt, isOpen, Entry, lengths, fileFrom, closeLine, closeEntry, carried, neededBy, answerOf, entryOf}
 use Rattle.ledger.specs.Ledger.{effective as bookTime}
-use Rattle.ledger.specs.Run.{happens, joined}
-use Rattle.ledger.specs.Agrees.{Agrees, AgreesOpen, AgreesLine}
-use Rattle.ledger.specs.Files.{closed-same, closed-size, size-is, Fileable, file-right}
+use Rattle.ledger.specs.Run.{happens}
+use Rattle.ledger.specs.Agrees.{Agrees, AgreesOpen}
+use Rattle.ledger.specs.Files.{closed-same, closed-size, size-is, file-right}
 use Rattle.ledger.specs.Lines.{open-same, line-live, close-agrees}
 use Rattle.ledger.specs.Regions.{bias-right, last-right, settings-right, settings-bounds, file-bounds, agrees-with}
 use Rattle.ledger.specs.Refusals.{close-refusal}

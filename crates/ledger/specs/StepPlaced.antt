@@ -12,7 +12,7 @@ use borrow.Author.Tests.{ltb-false, leb-true, eqb-true, eqb-false, lt-ltb, eq-eq
 use Rattle.octets.specs.Number.{Octets}
 use Rattle.octets.specs.Splice.{splice, splice-length}
 use Rattle.refusals.specs.Refusal.{or-false}
-use Rattle.timestamp.specs.Tests.{each}
+use Rattle.refusals.specs.Tests.{each}
 use Rattle.record.specs.declared.RecordHeader.{RecordHeader}
 use Rattle.record.specs.Release.{NarrowRelease, rank}
 use Rattle.record.specs.Record.{Record, recordOctets, RightRecord}

@@ -1,28 +1,28 @@
 -- One event: where a manager and its store agree with a ledger, the event's answer and output are the ledger's, its files are
 -- right, and both agree behind it. Here what every event shares, and OPEN. Assumes nothing.
-use mathlib.Core.Path.{_≡_, refl, sym, ap, _∙_, subst}
-use mathlib.Core.Bool.{Bool, true, false, cond, not, _&&_}
-use mathlib.Core.List.{List, [], _∷_, _++_}
-use Prim.Native.Nat.{ℕ, zero, suc, _+_, _≤_, _<_, max}
+use mathlib.Core.Path.{_≡_, refl, sym, ap, subst}
+use mathlib.Core.Bool.{true, cond, not, _&&_}
+use mathlib.Core.List.{List, [], _∷_}
+use Prim.Native.Nat.{ℕ, zero, suc, _≤_, _<_, max}
 use native.Mathlib.Omega.{arith}
 use native.Mathlib.Decide.{ℕ-discrete}
 use lib.Dec.{ltb, leb, eqb}
 use lib.ListN.{length}
-use borrow.Author.Tests.{ltb-false, leb-false, eq-eqb, ne-eqb, not-false}
+use borrow.Author.Tests.{ltb-false, leb-false, ne-eqb}
 use Rattle.octets.specs.Splice.{splice, splice-nil}
 use Rattle.refusals.specs.Refusal.{Rule, _when_, first, passed}
-use Rattle.cdrfile.specs.File.{File, RightFile}
+use Rattle.cdrfile.specs.File.{RightFile}
 use Rattle.state.specs.declared.Route.{Route}
 use Rattle.state.specs.declared.Manager.{Manager}
 use Rattle.state.specs.Manager.{routeAt, settingsAt, regions, effective, withRoute, withTime}
-use Rattle.state.specs.Bounds.{settingsRight, fileRight, routeRight, stateRight}
+use Rattle.state.specs.Bounds.{routeRight, stateRight}
 use Rattle.state.specs.Within.{RouteWithin, route-within, within, right-within}
 use Rattle.state.specs.Keep.{within-kept, settings-kept, route-set, route-unset, route-later}
 use Rattle.manager.specs.declared.Answer.{Answer}
 use Rattle.manager.specs.Rules.{openedRoute}
-use Rattle.manager.specs.Events.{After, after, settled, answered, common, openRules, opened, openOf}
-use Rattle.ledger.specs.Event.{Event, OPEN, CLOSE, TICK, RECEIVE}
-use Rattle.ledger.specs.Ledger.{Ledger, lineAt, Closing, Entry, lengths, openLine, carried, timeOf, outcomeOf, neededBy, refusal, answerBy, entryBy, answerOf, entryOf}
+use Rattle.manager.specs.Events.{After, settled, answered, common, openRules, opened, openOf}
+use Rattle.ledger.specs.Event.{Event, OPEN}
+use Rattle.ledger.specs.Ledger.{Ledger, lineAt, Closing, Entry, lengths, openLine, carried, outcomeOf, neededBy, refusal, answerBy, entryBy, answerOf, entryOf}
 use Rattle.ledger.specs.Ledger.{effective as bookTime}
 use Rattle.ledger.specs.Ledger.{routeOf as routeBooked}
 use Rattle.ledger.specs.Run.{happens, joined}

@@ -1,19 +1,18 @@
 -- The cases of `openOf`, `closeOf` and `tickOf` (Events), one for each way out of a call, and what it says that the refusals
 -- of every event were passed. Document 01, The events, and Refusals. Assumes nothing.
 use mathlib.Core.Path.{_≡_, refl, sym, ap, _∙_}
-use mathlib.Core.Bool.{Bool, true, false, cond, not, _&&_, _||_, true≢false}
+use mathlib.Core.Bool.{Bool, true, false, cond, not, _&&_, true≢false}
 use mathlib.Core.List.{List, [], _∷_, _++_}
 use Prim.Native.Nat.{ℕ, zero, suc, _+_, _≤_, _<_}
 use native.Mathlib.Omega.{arith}
 use native.Mathlib.Decide.{decLt}
 use lib.Dec.{leb, ltb, eqb}
 use lib.ListN.{length}
-use borrow.Author.Tests.{lt-ltb, le-ltb, le-leb, lt-leb, ne-eqb, ltb-false, leb-true, leb-false, eqb-false, not-true, not-false}
+use borrow.Author.Tests.{lt-ltb, le-ltb, le-leb, lt-leb, ne-eqb, ltb-false, leb-false, eqb-false, not-true, not-false}
 use Rattle.octets.specs.Splice.{splice}
 use Rattle.refusals.specs.Refusal.{Rule, _when_, first, passed}
-use Rattle.timestamp.specs.Tests.{both}
-use Rattle.record.specs.declared.Release.{Release}
-use Rattle.record.specs.Release.{narrowRelease}
+use Rattle.refusals.specs.Tests.{both}
+use Rattle.record.specs.Order.{in-width}
 use Rattle.state.specs.declared.Route.{Route}
 use Rattle.state.specs.declared.Manager.{Manager}
 use Rattle.state.specs.Manager.{routeAt, base, regions, effective, withRoute, withTime}
@@ -119,6 +118,23 @@ module _ (m : Manager) (octets time : ℕ) (rs : List Rule) where
 
   pub common-behind : first (common m octets time []) ≡ 0 → first (common m octets time rs) ≡ first rs
   common-behind e = first-behind (common m octets time []) rs refl e
+
+-- OPEN and CLOSE test 6 behind them, before they look at the route
+abbrev pub routeFirst : Manager → ℕ → ℕ → ℕ → List Rule
+routeFirst m octets time route = common m octets time ((6 when leb (m .count) route) ∷ [])
+
+module _ (m : Manager) (octets time route : ℕ) where
+  pub route-refused : (rs : List Rule) {n : ℕ} → n ≡ first (routeFirst m octets time route) → (n ≡ 0 → ⊥) → n ≡ first (routeFirst m octets time route ++ rs)
+  route-refused rs e h = e ∙ sym (first-before (routeFirst m octets time route) rs (λ z. h (e ∙ z)))
+
+  module _ (e : first (routeFirst m octets time route) ≡ 0) where
+    pub route-behind : (rs : List Rule) → first (routeFirst m octets time route ++ rs) ≡ first rs
+    route-behind rs = first-behind (routeFirst m octets time route) rs refl e
+
+    pub route-there : route < 8
+    route-there =
+        let p = common-passed m octets time ((6 when leb (m .count) route) ∷ []) e in
+        omega (arith, p .0 .state .few, leb-false (m .count) route (passed 5 (leb (m .count) route) [] (p .1) .0))
 
 -- OPEN
 module _ (m : Manager) (store output : List ℕ) (time route : ℕ) where
@@ -257,22 +273,14 @@ pub closable-as : {m : Manager} {r : Route} {i : ℕ} {store output : List ℕ} 
     → octet ≡ indicator (r .losses) (r .note) → from ≡ base m i → Closable m r octet store from output at
 closable-as k el eb = rw (el, eb, k .route) (k .closable)
 
-release-bounds : (r : Release) → narrowRelease r ≡ true → (r .release < 8) × (r .version < 32)
-release-bounds r e =
-    let t = both (leb (r .release) 7 && leb (r .version) 31) (eqb (r .release) 7 || eqb (r .extension) 0) e in
-    let u = both (leb (r .release) 7) (leb (r .version) 31) (t .0) in
-    let release = leb-true (r .release) 7 (u .0) in
-    let version = leb-true (r .version) 31 (u .1) in
-    (omega arith, omega arith)
-
 -- an open file of a state within its bounds can be closed wherever the output has room for it
 pub closes : {m : Manager} → Within m → (store : List ℕ) → base m (m .count) ≤ length store → (i : ℕ) → i < m .count
     → routeAt m i .«open» ≡ true → (output : List ℕ) (at : ℕ) → at + closedSize (routeAt m i) ≤ length output → Closes m (routeAt m i) i store output at
 closes {m} w store whole i there live output at room =
     let s = w .routes i there .settings in
     let f = w .routes i there .file live in
-    let high = release-bounds (routeAt m i .file .high) (f .high) in
-    let low = release-bounds (routeAt m i .file .low) (f .low) in
+    let high = in-width (routeAt m i .file .high) (f .high) in
+    let low = in-width (routeAt m i .file .low) (f .low) in
     record {
       route = refl;
       few = omega (arith, w .few);
@@ -283,10 +291,10 @@ closes {m} w store whole i there live output at room =
           bias = w .bias;
           lost = refl;
         };
-        high = high .0;
-        high-version = high .1;
-        low = low .0;
-        low-version = low .1;
+        high = high .release;
+        high-version = high .version;
+        low = low .release;
+        low-version = low .version;
         filter = s .octets;
         count = omega (arith, f .records, f .size, s .limit-most);
         records = omega (arith, f .size, region-within m i (m .count) there);

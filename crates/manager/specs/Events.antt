@@ -1,13 +1,12 @@
 -- OPEN, CLOSE and TICK (document 01, The events; Refusals) over any state, store, output and arguments: the refusals in
 -- their order, or what the event leaves: answer, state, store and output. Assumes nothing.
-use mathlib.Core.Bool.{Bool, true, false, cond, not}
+use mathlib.Core.Bool.{cond, not}
 use mathlib.Core.List.{List, [], _∷_, _++_}
 use Prim.Native.Nat.{ℕ, zero, suc, _+_}
 use lib.Dec.{ltb, leb, eqb}
 use lib.ListN.{length}
 use Rattle.octets.specs.Splice.{splice}
 use Rattle.refusals.specs.Refusal.{Rule, _when_, first}
-use Rattle.state.specs.declared.Route.{Route}
 use Rattle.state.specs.declared.Manager.{Manager}
 use Rattle.state.specs.Manager.{routeAt, regions, effective, withRoute, withTime}
 use Rattle.state.specs.Bounds.{stateRight}

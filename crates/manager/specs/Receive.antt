@@ -1,17 +1,16 @@
 -- RECEIVE (document 01, Routing and loss, The events; Refusals) over any state, store, output and arguments. A record is
 -- *unrouted*, *lost* or *placed*. A placed one may first close the file with 5 or 1, opens a file if none is open, is written
 -- behind the file's records, and may fill the file, which then closes with 3. Assumes nothing.
-use mathlib.Core.Bool.{Bool, true, false, cond, not, _&&_, _||_}
+use mathlib.Core.Bool.{Bool, cond, not, _&&_, _||_}
 use mathlib.Core.List.{List, [], _∷_, _++_}
 use Prim.Native.Nat.{ℕ, zero, suc, _+_}
-use lib.Dec.{ltb, leb, eqb}
+use lib.Dec.{ltb, eqb}
 use lib.ListN.{length, set}
 use Rattle.octets.specs.Splice.{splice}
 use Rattle.refusals.specs.Refusal.{Rule, _when_, first}
 use Rattle.record.specs.Record.{Record, recordOctets}
 use Rattle.state.specs.declared.Route.{Route}
 use Rattle.state.specs.declared.Manager.{Manager}
-use Rattle.state.specs.declared.Routed.{Routed}
 use Rattle.state.specs.Manager.{routeAt, base, effective, withRoute, withTime}
 use Rattle.state.specs.Loss.{lost}
 use Rattle.filing.specs.Closing.{closedFile, closedSize}

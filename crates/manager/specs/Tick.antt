@@ -10,7 +10,7 @@ use native.Mathlib.Numerals.{add-one}
 use lib.Dec.{ltb, leb}
 use lib.ListN.{length, length-append}
 use Rattle.octets.specs.Splice.{splice, splice-then, splice-nil}
-use Rattle.timestamp.specs.Tests.{both}
+use Rattle.refusals.specs.Tests.{both}
 use Rattle.state.specs.declared.Route.{Route}
 use Rattle.state.specs.declared.Manager.{Manager}
 use Rattle.state.specs.Manager.{routeAt, base, effective, withRoute, withTime}

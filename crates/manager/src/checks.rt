@@ -4,6 +4,7 @@ ghost use mathlib.Core.Bool.{cond};
 ghost use mathlib.Core.List.{[]};
 ghost use Rattle.refusals.specs.Refusal.{first};
 ghost use Rattle.manager.specs.Events.{common, refused};
+ghost use Rattle.manager.specs.Cases.{routeFirst};
 use crate::Answer;
 use crate::Outcome;
 use state::Manager;
@@ -24,6 +25,17 @@ pub fn common_refusal(m: Manager, store: usize, time: u32) -> u8
     let late = either(52595999 < time, 4, 0);
     let short = either(store < regions, 16, late);
     either(!right, 18, short)
+}
+
+// The first of 18, 16, 4 and 6 that applies, or 0: what OPEN and CLOSE test before they look at the route.
+pub fn route_refusal(m: Manager, store: usize, time: u32, route: u32) -> u8
+    ensures { λ r. ⌜ r ≡ first (routeFirst m store time route) ⌝ }
+{
+    let number = common_refusal(m, store, time);
+    if number != 0 {
+        return number;
+    }
+    either(m.count as u32 <= route, 6, 0)
 }
 
 // A refusal: its number, and zeros but for the octets that 17 says are needed. The state stays.

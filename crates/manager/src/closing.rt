@@ -6,9 +6,9 @@ ghost use Rattle.manager.specs.Events.{closeOf, after};
 ghost use Rattle.manager.specs.Cases.{closeFirst, Closes, Closed};
 use crate::Answer;
 use crate::Outcome;
-use crate::checks::common_refusal;
 use crate::checks::either;
 use crate::checks::refuse;
+use crate::checks::route_refusal;
 use crate::routes::closed_route;
 use crate::routes::closed_size;
 use state::Manager;
@@ -39,16 +39,13 @@ fn is_allowed(reason: u32) -> bool
     (reason == 0) | (reason == 4) | ((128 <= reason) & (reason <= 131))
 }
 
-// The first refusal of CLOSE but 17 that applies, or 0. A route is looked at only once it is known to be there.
+// The first refusal of CLOSE but 17 that applies, or 0.
 fn close_refusal(m: Manager, store: usize, time: u32, route: u32, reason: u32) -> u8
     ensures { λ r. ⌜ r ≡ first (closeFirst m store time route reason) ⌝ }
 {
-    let number = common_refusal(m, store, time);
+    let number = route_refusal(m, store, time, route);
     if number != 0 {
         return number;
-    }
-    if m.count as u32 <= route {
-        return 6;
     }
     let r = m.routes[route as usize];
     let right = is_allowed(reason);
@@ -58,7 +55,7 @@ fn close_refusal(m: Manager, store: usize, time: u32, route: u32, reason: u32) -
 
 // Closes a route's file with a reason into the output. The store stays.
 pub fn close(
-    m: Manager,
+    mut m: Manager,
     store: &mut [u8],
     output: &mut [u8],
     time: u32,
@@ -80,9 +77,8 @@ pub fn close(
     close_file(m, r, i, reason as u8, &store[..], output, 0);
     let closed = closed_route(r);
     let t = state::effective_time(m, time);
-    let mut q = m;
-    q.routes[i] = closed;
-    q.last = t;
+    m.routes[i] = closed;
+    m.last = t;
     Outcome {
         answer: Answer {
             refusal: 0,
@@ -91,6 +87,6 @@ pub fn close(
             files: 1,
             octets: size,
         },
-        manager: q,
+        manager: m,
     }
 }

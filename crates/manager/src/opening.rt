@@ -4,29 +4,26 @@ ghost use Rattle.refusals.specs.Refusal.{first};
 ghost use Rattle.manager.specs.Events.{openRules, openOf, after};
 use crate::Answer;
 use crate::Outcome;
-use crate::checks::common_refusal;
 use crate::checks::either;
 use crate::checks::refuse;
+use crate::checks::route_refusal;
 use crate::routes::opened_route;
 use state::Manager;
 
-// The first refusal of OPEN that applies, or 0. A route is looked at only once it is known to be there.
+// The first refusal of OPEN that applies, or 0.
 fn open_refusal(m: Manager, store: usize, time: u32, route: u32) -> u8
     ensures { λ r. ⌜ r ≡ first (openRules m store time route) ⌝ }
 {
-    let number = common_refusal(m, store, time);
+    let number = route_refusal(m, store, time, route);
     if number != 0 {
         return number;
-    }
-    if m.count as u32 <= route {
-        return 6;
     }
     let r = m.routes[route as usize];
     either(r.open, 14, 0)
 }
 
 // Opens an empty file on a route. Store and output stay.
-pub fn open(m: Manager, store: &mut [u8], output: &mut [u8], time: u32, route: u32) -> Outcome
+pub fn open(mut m: Manager, store: &mut [u8], output: &mut [u8], time: u32, route: u32) -> Outcome
     ensures { λ r. ⌜ after r (now (store .exit)) (now (output .exit)) ≡ openOf m (now (store .entry)) (now (output .entry)) time route ⌝ }
 {
     let number = open_refusal(m, store.len(), time, route);
@@ -37,9 +34,8 @@ pub fn open(m: Manager, store: &mut [u8], output: &mut [u8], time: u32, route: u
     let r = m.routes[i];
     let t = state::effective_time(m, time);
     let opened = opened_route(r, t);
-    let mut q = m;
-    q.routes[i] = opened;
-    q.last = t;
+    m.routes[i] = opened;
+    m.last = t;
     Outcome {
         answer: Answer {
             refusal: 0,
@@ -48,6 +44,6 @@ pub fn open(m: Manager, store: &mut [u8], output: &mut [u8], time: u32, route: u
             files: 0,
             octets: 0,
         },
-        manager: q,
+        manager: m,
     }
 }

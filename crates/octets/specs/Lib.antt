@@ -1,2 +1,3 @@
 pub mod Splice
 pub mod Number
+pub mod Alike

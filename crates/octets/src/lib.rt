@@ -1,9 +1,10 @@
-// Octets: copying into a part of a slice, and big-endian numbers. The only loop over raw octets stands here.
+// Octets: copying into a part of a slice, comparing, and big-endian numbers.
 ghost use mathlib.Core.Path.{_≡_};
 ghost use Prim.Native.Nat.{_+_, _≤_, _<_};
 ghost use lib.ListN.{length};
 ghost use Rattle.octets.specs.Splice.{splice};
 ghost use Rattle.octets.specs.Number.{be, num};
+ghost use Rattle.octets.specs.Alike.{alike};
 
 // Writes `src` over `dst` from `at` on.
 pub fn copy(dst: &mut [u8], at: usize, src: &[u8])
@@ -15,6 +16,20 @@ pub fn copy(dst: &mut [u8], at: usize, src: &[u8])
         dst[at + i] = src[i];
         i += 1;
     }
+}
+
+// Whether the first n octets of two slices are the same.
+pub fn are_alike(a: &[u8], b: &[u8], n: usize) -> bool
+    requires { ⌜ (n ≤ length (now a)) × (n ≤ length (now b)) ⌝ }
+    ensures { λ r. ⌜ r ≡ alike (now (a .entry)) (now (b .entry)) n ⌝ }
+{
+    let mut all = true;
+    let mut i: usize = 0;
+    while i < n {
+        all = all & (a[i] == b[i]);
+        i += 1;
+    }
+    all
 }
 
 // The two octets of a number, most significant first.

@@ -4,13 +4,11 @@ use record::Release;
 use record::Tallied;
 use timestamp::Timestamp;
 ghost use mathlib.Core.Path.{_≡_};
-ghost use mathlib.Core.Bool.{cond};
-ghost use mathlib.Core.List.{_∷_};
 ghost use Prim.Native.Nat.{_+_, _≤_, _<_};
 ghost use lib.ListN.{length, getD};
-ghost use Rattle.octets.specs.Number.{num, octetsAt};
+ghost use Rattle.octets.specs.Number.{octetsAt};
 ghost use Rattle.refusals.specs.Refusal.{first};
-ghost use Rattle.reader.specs.Places.{headerLengthAt, filterLengthAt, plainLength, extensionsOf, privatePart, releaseAt, headerAt};
+ghost use Rattle.reader.specs.Places.{extensionsOf, releaseAt, headerAt};
 ghost use Rattle.reader.specs.Reader.{wrongValue, wrongRecords, noTime, noHeader, refusedContents, readOf, partOf};
 ghost use Rattle.reader.specs.Frame.{frameOf, headerFrame, refusedFrame, Framed, RightFrame};
 

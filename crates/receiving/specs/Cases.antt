@@ -20,15 +20,10 @@ use Rattle.manager.specs.declared.Outcome.{Outcome}
 use Rattle.manager.specs.Rules.{wrongFields, routedTo}
 use Rattle.manager.specs.Events.{After, after, refused, settled, common}
 use Rattle.manager.specs.Receive.{isLost, needed, countersFull, taken, placedSize, unrouted, lostAt, placedAt, receiveOf}
+use Rattle.placing.specs.Plan.{Usable}
+use Rattle.placing.specs.Made.{placedOr}
 
--- the fields of a record that can be placed are within their widths
-pub record Usable (a : Arrival) : Type 0 where
-  pub release : a .release < 8
-  pub version : a .version < 32
-  pub format : a .format < 8
-  pub ts : a .ts < 32
-
--- with mark 1 they are not judged
+-- with mark 1 the fields of a record are not judged
 abbrev pub UsableUnlessMarked : Arrival → Type 0
 UsableUnlessMarked a = (a .mark ≡ 1 → ⊥) → Usable a
 
@@ -68,19 +63,13 @@ routed m a key r f =
 pub unmarked : (m : Manager) (a : Arrival) (i body : ℕ) → isLost m a i body ≡ false → a .mark ≡ 1 → ⊥
 unmarked m a i body e z = let f : true ≡ false = rw (eq-eqb _ _ z) at e in true≢false f
 
--- the three outcomes, each with its own refusal: 19 for a counter that would rise, 17 for the files that close
+-- two of the outcomes, each with its own refusal: 19 for a counter that would rise
 abbrev pub unroutedOr : Manager → ℕ → Outcome
 unroutedOr m t =
     cond (eqb (m .unrouted) 4294967295) (refused 19 0 m) (unrouted m [] [] t .outcome)
 
 abbrev pub lostOr : Manager → ℕ → ℕ → Outcome
 lostOr m t i = cond (eqb (routeAt m i .losses) 4294967295) (refused 19 0 m) (lostAt m [] [] t i .outcome)
-
-abbrev pub placedOr : Manager → List ℕ → List ℕ → ℕ → Arrival → List ℕ → ℕ → After
-placedOr m store output t a body i =
-    cond (ltb (length output) (placedSize (routeAt m i) a (length body) t))
-    (after (refused 17 (placedSize (routeAt m i) a (length body) t) m) store output)
-    (placedAt m store output t a body i)
 
 -- The shape of the definition, over its conditions: first 18, 16 and 4.
 module _ (b18 b16 b4 : Bool) where

@@ -1,29 +1,15 @@
 // RECEIVE on any state, store and output (document 01, Routing and loss, The events): a record is unrouted, lost or placed.
-mod file;
 mod pass;
-mod place;
-mod planning;
 
 use manager::Arrival;
 use manager::Outcome;
 use state::Manager;
-use state::Route;
 use state::Routed;
 ghost use mathlib.Core.Path.{_≡_};
 ghost use Rattle.state.specs.Routing.{Routable};
 ghost use Rattle.manager.specs.Rules.{wrongFields, routedTo};
 ghost use Rattle.manager.specs.Events.{after};
 ghost use Rattle.manager.specs.Receive.{receiveOf};
-
-// What a placed record does to its route: whether it closes the open file first, and with which reason; how many octets of
-// records stand before it in the file that takes it; the route with it in that file; and whether this fills the file.
-struct Plan {
-    turns: bool,
-    reason: u8,
-    used: u32,
-    holding: Route,
-    fills: bool,
-}
 
 // Whether the mark, the key's length or the record's fields are wrong: refusal 5.
 fn wrong_fields(a: Arrival, key: usize) -> bool
@@ -79,10 +65,10 @@ pub fn receive(
     if !to.found {
         return pass::unrouted(m, t);
     }
-    let i = to.at;
+    let i = to.at as usize;
     let r = m.routes[i];
     if pass::is_lost(r.settings, a, body.len()) {
         return pass::lost(m, t, i);
     }
-    place::place(m, store, output, t, a, body, i)
+    placing::place(m, store, output, t, a, body, i)
 }

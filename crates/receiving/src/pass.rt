@@ -1,5 +1,4 @@
 // Records that no file takes (document 01, Routing and loss): unrouted ones and lost ones. They open and close nothing.
-use crate::planning::header_for;
 use manager::Answer;
 use manager::Arrival;
 use manager::Outcome;
@@ -22,16 +21,15 @@ pub fn is_lost(s: RouteSettings, a: Arrival, body: usize) -> bool
     if a.mark == 1 {
         return true;
     }
-    let h = header_for(a);
+    let h = placing::header_for(a);
     state::is_lost(s, a.mark, h.release, body)
 }
 
-fn noted_route(r: Route) -> Route
+fn noted_route(mut r: Route) -> Route
     ensures { λ q. ⌜ q ≡ notedRoute r ⌝ }
 {
-    let mut q = r;
-    q.note = true;
-    q
+    r.note = true;
+    r
 }
 
 // The routes, with the note of an unrouted record on all that are configured.
@@ -51,7 +49,7 @@ fn noted_routes(m: Manager) -> [Route; 8]
 }
 
 // An unrouted record: counted and noted, or 19 where its counter would rise past 32 bits.
-pub fn unrouted(m: Manager, t: u32) -> Outcome
+pub fn unrouted(mut m: Manager, t: u32) -> Outcome
     requires { ⌜ m .count ≤ 8 ⌝ }
     ensures { λ r. ⌜ r ≡ unroutedOr m t ⌝ }
 {
@@ -59,10 +57,9 @@ pub fn unrouted(m: Manager, t: u32) -> Outcome
         return manager::refuse(m, 19, 0);
     }
     let routes = noted_routes(m);
-    let mut q = m;
-    q.routes = routes;
-    q.last = t;
-    q.unrouted = m.unrouted + 1;
+    m.routes = routes;
+    m.last = t;
+    m.unrouted = m.unrouted + 1;
     Outcome {
         answer: Answer {
             refusal: 0,
@@ -71,21 +68,20 @@ pub fn unrouted(m: Manager, t: u32) -> Outcome
             files: 0,
             octets: 0,
         },
-        manager: q,
+        manager: m,
     }
 }
 
-fn lost_route(r: Route) -> Route
+fn lost_route(mut r: Route) -> Route
     requires { ⌜ r .losses < 4294967295 ⌝ }
     ensures { λ q. ⌜ q ≡ lostRoute r ⌝ }
 {
-    let mut q = r;
-    q.losses = q.losses + 1;
-    q
+    r.losses = r.losses + 1;
+    r
 }
 
 // A lost record: one more known loss of its route, or 19 where that counter would rise past 32 bits.
-pub fn lost(m: Manager, t: u32, i: usize) -> Outcome
+pub fn lost(mut m: Manager, t: u32, i: usize) -> Outcome
     requires { ⌜ i < 8 ⌝ }
     ensures { λ r. ⌜ r ≡ lostOr m t i ⌝ }
 {
@@ -94,9 +90,8 @@ pub fn lost(m: Manager, t: u32, i: usize) -> Outcome
         return manager::refuse(m, 19, 0);
     }
     let c = lost_route(r);
-    let mut q = m;
-    q.routes[i] = c;
-    q.last = t;
+    m.routes[i] = c;
+    m.last = t;
     Outcome {
         answer: Answer {
             refusal: 0,
@@ -105,6 +100,6 @@ pub fn lost(m: Manager, t: u32, i: usize) -> Outcome
             files: 0,
             octets: 0,
         },
-        manager: q,
+        manager: m,
     }
 }

@@ -10,7 +10,7 @@ use lib.Dec.{eqb}
 use lib.ListN.{length, getD, take, drop, length-append, length-drop, take-append-drop}
 use lib.Seq.{drop-cons, drop-drop, length-take-le, take-at, drop-at}
 use borrow.Author.Tests.{eqb-true, eqb-false}
-use Rattle.octets.specs.Number.{be, num, Octets, be-num, octets-drop, octets-take, num-lt}
+use Rattle.octets.specs.Number.{be, Octets, be-num, octets-drop, octets-take, num-lt}
 use Rattle.record.specs.declared.Release.{Release}
 use Rattle.record.specs.Release.{extensionOctets}
 use Rattle.record.specs.Record.{Record, recordOctets, RightRecord, AllRight, recordsOctets}

@@ -2,8 +2,8 @@
 -- for exactly this order among releases within their widths, and tells any two of them apart. The greatest and least of some
 -- records are of one among them and bound them all (document 01, File header: "the greatest and least in that order among
 -- the records"). The least of no records counts as 65,535, so the law of the least is for right records. Assumes nothing.
-use mathlib.Core.Path.{_≡_, refl, sym, ap}
-use mathlib.Core.Bool.{Bool, true, false, _&&_, _||_, true≢false}
+use mathlib.Core.Path.{_≡_, refl, ap}
+use mathlib.Core.Bool.{Bool, true, false, _&&_, _||_}
 use mathlib.Core.List.{List, [], _∷_, List·Memᴰ, List·Memᴰ·head, List·Memᴰ·tail, List·Memᴰ·not-nil, List·Memᴰ·cases-cons}
 use mathlib.Core.Logic.{_⊎_, inl, inr, ⊎-elim}
 use Prim.Native.Nat.{ℕ, _≤_, _<_}
@@ -12,14 +12,23 @@ use native.Mathlib.Decide.{decLt, decLe, ℕ-discrete}
 use lib.Dec.{leb, eqb}
 use lib.ListN.{length}
 use borrow.Author.Tests.{leb-true, le-leb, eqb-true, eq-eqb, ne-eqb}
+use Rattle.refusals.specs.Tests.{both}
 use Rattle.record.specs.declared.Release.{Release}
 use Rattle.record.specs.Release.{narrowRelease, NarrowRelease, rank}
 use Rattle.record.specs.Record.{Record, AllRight, highest, lowest}
 
 -- The test of a release's widths says what the fact says. An octet's extension is below 256 anyway.
-both : (a b : Bool) → (a && b) ≡ true → (a ≡ true) × (b ≡ true)
-both true b e = (refl, e)
-both false b e = absurd (true≢false (sym e))
+
+-- without the extension, which the machine bounds
+pub record InWidth (r : Release) : Type 0 where
+  pub release : r .release < 8
+  pub version : r .version < 32
+
+pub in-width : (r : Release) → narrowRelease r ≡ true → InWidth r
+in-width r e =
+    let t = both (leb (r .release) 7 && leb (r .version) 31) (eqb (r .release) 7 || eqb (r .extension) 0) e in
+    let u = both (leb (r .release) 7) (leb (r .version) 31) (t .0) in
+    record { release = omega (arith, leb-true (r .release) 7 (u .0)); version = omega (arith, leb-true (r .version) 31 (u .1)) }
 
 module _ (r : Release) where
   absent-by : (b : Bool) → eqb (r .release) 7 ≡ b → (b || eqb (r .extension) 0) ≡ true → (r .release ≡ 7 → ⊥) → r .extension ≡ 0
@@ -28,14 +37,9 @@ module _ (r : Release) where
 
   pub narrowed : r .extension < 256 → narrowRelease r ≡ true → NarrowRelease r
   narrowed x e =
+      let w = in-width r e in
       let a = both (leb (r .release) 7 && leb (r .version) 31) (eqb (r .release) 7 || eqb (r .extension) 0) e in
-      let b = both (leb (r .release) 7) (leb (r .version) 31) (a .0) in
-      record {
-        release = omega (arith, leb-true (r .release) 7 (b .0));
-        extension = x;
-        version = omega (arith, leb-true (r .version) 31 (b .1));
-        absent = absent-by (eqb (r .release) 7) refl (a .1);
-      }
+      record { release = w .release; extension = x; version = w .version; absent = absent-by (eqb (r .release) 7) refl (a .1) }
 
   present-by : NarrowRelease r → Dec (r .release ≡ 7) → (eqb (r .release) 7 || eqb (r .extension) 0) ≡ true
   present-by n (yes e) = rw (eq-eqb _ _ e)

@@ -1,11 +1,10 @@
 -- Releases and versions (document 01, Record header; 000, 6.1.2.2, 6.1.2.3, 6.1.2.6): their widths, their octets and their
 -- order. An absent extension counts as 0. 000 orders by Release * 100 + Version; document 01's order, by release, then
 -- extension, then version, is the one meant here. Assumes nothing.
-use mathlib.Core.Path.{_≡_, refl, _∙_}
-use mathlib.Core.Bool.{Bool, true, false, cond, _&&_, _||_}
+use mathlib.Core.Path.{_≡_}
+use mathlib.Core.Bool.{Bool, cond, _&&_, _||_}
 use mathlib.Core.List.{List, [], _∷_}
-use Prim.Native.Nat.{ℕ, _+_, _*_, _≤_, _<_}
-use native.Mathlib.Omega.{arith}
+use Prim.Native.Nat.{ℕ, _+_, _*_, _<_}
 use lib.Dec.{leb, eqb}
 use Rattle.record.specs.declared.Release.{Release}
 

@@ -2,7 +2,7 @@
 ghost use mathlib.Core.Path.{_≡_};
 ghost use Prim.Native.Nat.{_≤_, max, min};
 ghost use lib.ListN.{length};
-ghost use Rattle.record.specs.Release.{rank, headerLength};
+ghost use Rattle.record.specs.Release.{narrowRelease, rank, headerLength};
 ghost use Rattle.record.specs.Step.{stepOf, stepAt, bodyAt, headerAt, fieldsOf, refusedStep};
 ghost use Rattle.record.specs.Walk.{tallyOf};
 ghost use Rattle.record.specs.HeaderOctets.{NarrowHeader, fiveOctets};
@@ -39,6 +39,13 @@ pub struct Tallied {
     pub count: usize,
     pub high: u32,
     pub low: u32,
+}
+
+// Whether a release and its version fit their bits, with no extension below release 7.
+pub fn is_narrow_release(r: Release) -> bool
+    ensures { λ b. ⌜ b ≡ narrowRelease r ⌝ }
+{
+    (r.release <= 7) & (r.version <= 31) & ((r.release == 7) | (r.extension == 0))
 }
 
 // The place of a release in the order by release, then extension, then version.

@@ -1,6 +1,6 @@
 -- What acceptance says of a file's octets, condition by condition, and that these conditions are acceptance. Assumes nothing.
-use mathlib.Core.Path.{_≡_, refl, sym, ap, _∙_}
-use mathlib.Core.Bool.{Bool, true, false, not}
+use mathlib.Core.Path.{_≡_, refl, ap, _∙_}
+use mathlib.Core.Bool.{true, false, not}
 use mathlib.Core.List.{List, [], _∷_}
 use Prim.Native.Nat.{ℕ}
 use native.Mathlib.Omega.{arith}
@@ -8,7 +8,7 @@ use lib.Dec.{eqb}
 use lib.ListN.{length}
 use borrow.Author.Tests.{eqb-true, eq-eqb, not-false}
 use Rattle.octets.specs.Number.{num}
-use Rattle.refusals.specs.Refusal.{Rule, _when_, first, passed}
+use Rattle.refusals.specs.Refusal.{_when_, first, passed}
 use Rattle.record.specs.declared.Tallied.{Tallied}
 use Rattle.record.specs.Record.{Record}
 use Rattle.record.specs.Walk.{Walked, records, broken, walkOf, tallied, tallyOf}

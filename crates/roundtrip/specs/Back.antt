@@ -1,22 +1,18 @@
 -- What the reader hands back of an accepted file is the file that its octets say. Assumes nothing.
-use mathlib.Core.Path.{_≡_, refl, sym, ap, _∙_}
-use mathlib.Core.Bool.{Bool, true, false}
+use mathlib.Core.Path.{_≡_, refl, ap, _∙_}
 use mathlib.Core.List.{List}
-use Prim.Native.Nat.{ℕ, zero, suc, _+_, _-_, _≤_}
+use Prim.Native.Nat.{ℕ, zero, suc, _-_}
 use native.Mathlib.Omega.{arith}
-use lib.ListN.{length, take, drop}
-use Rattle.octets.specs.Number.{Octets}
+use lib.ListN.{length}
 use Rattle.record.specs.Record.{Record}
-use Rattle.record.specs.Walk.{Walked, walkOf, part-from}
-use Rattle.cdrfile.specs.File.{File, layout, RightFile}
-use Rattle.reader.specs.declared.Contents.{Contents}
+use Rattle.record.specs.Walk.{walkOf, part-from}
 use Rattle.reader.specs.Places.{headerLengthAt, filterLengthAt, privatePart}
 use Rattle.reader.specs.Reader.{bodyOf, partOf, verdict, settled, contentsOf, readOf}
 use Rattle.reader.specs.Frame.{sized, records-begin}
 use Rattle.reader.specs.Parts.{part-within}
 use Rattle.roundtrip.specs.Handed.{listed, handedBack}
-use Rattle.roundtrip.specs.Accepted.{Accepted, accepts, accepted}
-use Rattle.roundtrip.specs.Sound.{fileAt, layout-again, right-again}
+use Rattle.roundtrip.specs.Accepted.{Accepted}
+use Rattle.roundtrip.specs.Sound.{fileAt}
 
 -- the answer's number is the verdict
 settled-number : (n : ℕ) (xs : List ℕ) → settled n xs .refusal ≡ n

@@ -13,12 +13,12 @@
 -- Assumes nothing.
 use mathlib.Core.Path.{_≡_}
 use mathlib.Core.Logic.{_↔_}
-use mathlib.Core.List.{List, [], _∷_, _++_}
+use mathlib.Core.List.{List, _∷_, _++_}
 use Prim.Native.Nat.{ℕ, _≤_}
 use lib.ListN.{length, take, drop}
 use Rattle.octets.specs.Number.{Octets, num}
 use Rattle.octets.specs.Splice.{splice}
-use Rattle.refusals.specs.Refusal.{Rule, _when_, first}
+use Rattle.refusals.specs.Refusal.{_when_, first}
 use Rattle.record.specs.Record.{recordsOctets}
 use Rattle.record.specs.Walk.{tallyOf}
 use Rattle.cdrfile.specs.declared.Header.{Header}

@@ -1,6 +1,6 @@
 -- Demand 2 (Demand2.antt) holds: soundness (Sound, Back), completeness (Complete) and the writer's side (Write) together.
 -- Assumes nothing.
-use mathlib.Core.Path.{_≡_, refl, sym, ap, _∙_, subst}
+use mathlib.Core.Path.{_≡_, sym, ap, _∙_, subst}
 use mathlib.Core.Logic.{_↔_}
 use mathlib.Core.List.{List, _++_}
 use Prim.Native.Nat.{ℕ, _+_, _≤_}
@@ -10,7 +10,6 @@ use lib.ListN.{length, take, drop}
 use Rattle.octets.specs.Number.{Octets, octets-drop}
 use Rattle.octets.specs.Splice.{splice, splice-there}
 use Rattle.record.specs.Record.{Record, recordsOctets}
-use Rattle.cdrfile.specs.declared.Header.{Header}
 use Rattle.cdrfile.specs.File.{File, layout, RightFile, Described}
 use Rattle.reader.specs.declared.Contents.{Contents}
 use Rattle.reader.specs.Places.{headerLengthAt}
@@ -21,7 +20,7 @@ use Rattle.roundtrip.specs.Accepted.{Accepted, accepts, accepted}
 use Rattle.roundtrip.specs.Sound.{fileAt, body, layout-again, right-again}
 use Rattle.roundtrip.specs.Complete.{complete, handed-again}
 use Rattle.roundtrip.specs.Back.{read-number, records-back, back}
-use Rattle.roundtrip.specs.Write.{given, right-held, write-number, Taken, taken, body-is, layout-given, given-right, write-given, taken-right}
+use Rattle.roundtrip.specs.Write.{given, right-held, write-number, Taken, taken, body-is, given-right, write-given, taken-right}
 use Rattle.roundtrip.specs.Demand2.{Call, Plain, Accepts, fileOf, Demand2}
 
 -- Octets that the reader accepts.

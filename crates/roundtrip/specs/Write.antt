@@ -1,17 +1,17 @@
 -- What the writer accepts is a right file, and a right file that fits is written (document 01, Reader, second paragraph).
 -- Assumes nothing.
 use mathlib.Core.Path.{_≡_, refl, sym, ap, _∙_}
-use mathlib.Core.Bool.{Bool, true, false, not, _&&_, _||_}
+use mathlib.Core.Bool.{true, not, _&&_, _||_}
 use mathlib.Core.List.{List, [], _∷_}
-use Prim.Native.Nat.{ℕ, zero, suc, _+_, _≤_}
+use Prim.Native.Nat.{ℕ, zero, suc, _≤_}
 use native.Mathlib.Omega.{arith}
 use lib.Dec.{eqb, ltb}
 use lib.ListN.{length}
 use borrow.Author.Tests.{eqb-true, ltb-false, le-ltb, not-false}
 use Rattle.octets.specs.Number.{Octets}
 use Rattle.octets.specs.Splice.{splice}
-use Rattle.refusals.specs.Refusal.{Rule, _when_, first, passed, or-false, both-false}
-use Rattle.timestamp.specs.Tests.{both}
+use Rattle.refusals.specs.Refusal.{_when_, passed, or-false, both-false}
+use Rattle.refusals.specs.Tests.{both}
 use Rattle.timestamp.specs.Timestamp.{narrow, right, narrow-bounds, bounds-narrow, right-bounds, bounds-right, right-narrow}
 use Rattle.record.specs.declared.Tallied.{Tallied}
 use Rattle.record.specs.Release.{narrowRelease}
@@ -20,7 +20,7 @@ use Rattle.record.specs.Order.{narrowed, narrow-true}
 use Rattle.record.specs.Walk.{Walked, records, broken, walkOf, tallied, tallyOf}
 use Rattle.record.specs.Format.{walked, walks}
 use Rattle.cdrfile.specs.declared.Header.{Header}
-use Rattle.cdrfile.specs.File.{File, headerLength, fileOctets, layout, wrongOrder, RightFile}
+use Rattle.cdrfile.specs.File.{File, fileOctets, layout, wrongOrder, RightFile}
 use Rattle.cdrfile.specs.Laws.{file-length}
 use Rattle.cdrfile.specs.Ordered.{ordered, not-wrong}
 use Rattle.writer.specs.Writer.{After, beyondWidth, wrongValue, neededOctets, verdict, settled, written, writeOf}

@@ -13,7 +13,7 @@ use lib.Seq.{getD-set-same, getD-set-other}
 use borrow.Author.Tests.{ltb-false, le-leb, not-false}
 use Rattle.octets.specs.Number.{num}
 use Rattle.refusals.specs.Refusal.{_when_, passed, or-false}
-use Rattle.timestamp.specs.Tests.{both}
+use Rattle.refusals.specs.Tests.{both}
 use Rattle.state.specs.declared.Route.{Route}
 use Rattle.state.specs.Manager.{noRoute, routeAt}
 use Rattle.state.specs.Bounds.{settingsRight, distinct, routeRight, routesRight, stateRight}

@@ -6,7 +6,8 @@ use mathlib.Core.List.{List, [], _∷_}
 use Prim.Native.Nat.{ℕ, zero, suc, _+_, _*_}
 use lib.Dec.{ltb, leb, eqb}
 use lib.ListN.{getD}
-use Rattle.timestamp.specs.Tests.{allOf}
+use Rattle.octets.specs.Alike.{alike}
+use Rattle.refusals.specs.Tests.{allOf}
 use Rattle.record.specs.declared.Release.{Release}
 use Rattle.record.specs.Release.{narrowRelease, rank}
 use Rattle.state.specs.declared.RouteSettings.{RouteSettings}
@@ -36,10 +37,6 @@ unfoldable pub settingsRight : RouteSettings → Bool
 settingsRight s = allOf (settingsTests s)
 
 -- the same filter: as long, and the same octets
-abbrev pub alike : List ℕ → List ℕ → ℕ → Bool
-alike a b zero = true
-alike a b (suc n) = alike a b n && eqb (getD a n 0) (getD b n 0)
-
 unfoldable pub sameFilter : RouteSettings → RouteSettings → Bool
 sameFilter a b = eqb (a .octets) (b .octets) && alike (a .filter) (b .filter) 20
 

@@ -3,7 +3,7 @@
 use mathlib.Core.Path.{_≡_, refl}
 use mathlib.Core.Bool.{Bool, true, false, not, _&&_, _||_, true≢false, false≢true}
 use mathlib.Core.List.{List, [], _∷_}
-use Rattle.timestamp.specs.Tests.{andAll, allOf}
+use Rattle.refusals.specs.Tests.{andAll, allOf}
 
 -- each test of the list holds
 pub data Hold : List Bool → Type 0 where

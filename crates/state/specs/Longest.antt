@@ -8,7 +8,7 @@ use native.Mathlib.Omega.{arith}
 use native.Mathlib.Decide.{ℕ-discrete}
 use lib.Dec.{ltb}
 use borrow.Author.Tests.{ltb-true, ltb-false, not-false}
-use Rattle.timestamp.specs.Tests.{both}
+use Rattle.refusals.specs.Tests.{both}
 use Rattle.refusals.specs.Refusal.{or-false}
 use Rattle.state.specs.declared.Manager.{Manager}
 use Rattle.state.specs.declared.Routed.{Routed}

@@ -3,21 +3,17 @@
 use mathlib.Core.Bool.{Bool, true, false, cond, not, _&&_, _||_}
 use mathlib.Core.List.{List}
 use Prim.Native.Nat.{ℕ, zero, suc, _≤_, _<_}
-use lib.Dec.{ltb, leb, eqb}
-use lib.ListN.{length, getD}
+use lib.Dec.{ltb, leb}
+use lib.ListN.{length}
+use Rattle.octets.specs.Alike.{alike}
 use Rattle.state.specs.declared.RouteSettings.{RouteSettings}
 use Rattle.state.specs.declared.Manager.{Manager}
 use Rattle.state.specs.declared.Routed.{Routed}
 use Rattle.state.specs.Manager.{settingsAt}
 
--- the first n octets agree
-abbrev pub agree : List ℕ → List ℕ → ℕ → Bool
-agree filter key zero = true
-agree filter key (suc n) = agree filter key n && eqb (getD filter n 0) (getD key n 0)
-
 -- the filter is a prefix of the key
 unfoldable pub fits : RouteSettings → List ℕ → Bool
-fits s key = leb (s .octets) (length key) && agree (s .filter) key (s .octets)
+fits s key = leb (s .octets) (length key) && alike (s .filter) key (s .octets)
 
 abbrev pub nobody : Routed
 nobody = record { found = false; at = 0; octets = 0 }

@@ -7,9 +7,8 @@ use native.Mathlib.Omega.{arith}
 use native.Mathlib.Decide.{ℕ-discrete}
 use lib.Dec.{leb, ltb, eqb}
 use borrow.Author.Tests.{leb-true, ltb-true, eqb-true, eqb-false, le-leb, lt-ltb, eq-eqb, ne-eqb}
-use Rattle.timestamp.specs.Tests.{both, each}
-use Rattle.record.specs.declared.Release.{Release}
-use Rattle.record.specs.Release.{narrowRelease, NarrowRelease, rank}
+use Rattle.refusals.specs.Tests.{both, each}
+use Rattle.record.specs.Release.{narrowRelease, rank}
 use Rattle.state.specs.declared.RouteSettings.{RouteSettings}
 use Rattle.state.specs.declared.OpenFile.{OpenFile}
 use Rattle.state.specs.declared.Route.{Route}
@@ -19,18 +18,6 @@ use Rattle.state.specs.Size.{headerSize}
 use Rattle.state.specs.Routing.{Routable}
 use Rattle.state.specs.Bounds.{zeroFrom, settingsTests, settingsRight, distinct, sameRelease, fileTests, fileRight, routeRight, routesRight, stateRight}
 use Rattle.state.specs.Holding.{none, _also_, and-holds, all-hold, or-holds, or-second, if-holds, if-then}
-
--- a release that passes its test is within its widths; the extension is an octet of itself
-pub narrow-release : (r : Release) → r .extension < 256 → narrowRelease r ≡ true → NarrowRelease r
-narrow-release r h e =
-    let t = both (leb (r .release) 7 && leb (r .version) 31) (eqb (r .release) 7 || eqb (r .extension) 0) e in
-    let w = both (leb (r .release) 7) (leb (r .version) 31) (t .0) in
-    record {
-      release = omega (arith, leb-true (r .release) 7 (w .0));
-      extension = h;
-      version = omega (arith, leb-true (r .version) 31 (w .1));
-      absent = λ z. eqb-true _ _ (or-second (eqb (r .release) 7) (eqb (r .extension) 0) (t .1) (ne-eqb _ _ z));
-    }
 
 -- a route's settings in range
 pub record SettingsWithin (s : RouteSettings) : Type 0 where

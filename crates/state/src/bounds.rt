@@ -2,21 +2,12 @@
 // bits are taken in 64.
 ghost use mathlib.Core.Path.{_≡_};
 ghost use Prim.Native.Nat.{_≤_};
-ghost use Rattle.record.specs.Release.{narrowRelease};
-ghost use Rattle.state.specs.Bounds.{zeroFrom, settingsRight, alike, sameFilter, distinct, fileRight, routeRight, routesRight, stateRight};
+ghost use Rattle.state.specs.Bounds.{zeroFrom, settingsRight, sameFilter, distinct, fileRight, routeRight, routesRight, stateRight};
 use crate::Manager;
 use crate::OpenFile;
 use crate::Route;
 use crate::RouteSettings;
 use crate::size::header_size;
-use record::Release;
-
-// Whether a release and its version fit their bits, with no extension below release 7.
-fn is_narrow(r: Release) -> bool
-    ensures { λ b. ⌜ b ≡ narrowRelease r ⌝ }
-{
-    (r.release <= 7) & (r.version <= 31) & ((r.release == 7) | (r.extension == 0))
-}
 
 // Whether the octets of the filter from n on, up to `end`, are 0.
 fn zero_from(filter: [u8; 20], n: u8, end: usize) -> bool
@@ -39,22 +30,8 @@ pub fn settings_right(s: RouteSettings) -> bool
 {
     let filter = s.filter;
     let unused = zero_from(filter, s.octets, 20);
-    let narrow = is_narrow(s.release);
+    let narrow = record::is_narrow_release(s.release);
     (s.octets <= 20) & unused & (128 <= s.limit) & (s.limit <= 1048576) & (s.flag <= 1) & narrow
-}
-
-// Whether the first n octets of two filters are the same.
-fn are_alike(a: [u8; 20], b: [u8; 20], n: usize) -> bool
-    requires { ⌜ n ≤ 20 ⌝ }
-    ensures { λ r. ⌜ r ≡ alike a b n ⌝ }
-{
-    let mut same = true;
-    let mut i: usize = 0;
-    while i < n {
-        same = same & (a[i] == b[i]);
-        i += 1;
-    }
-    same
 }
 
 fn same_filter(a: RouteSettings, b: RouteSettings) -> bool
@@ -62,7 +39,7 @@ fn same_filter(a: RouteSettings, b: RouteSettings) -> bool
 {
     let one = a.filter;
     let other = b.filter;
-    let octets = are_alike(one, other, 20);
+    let octets = octets::are_alike(&one, &other, 20);
     (a.octets == b.octets) & octets
 }
 
@@ -97,8 +74,8 @@ fn file_right(last: u32, s: RouteSettings, f: OpenFile) -> bool
     let high = record::rank_of(f.high);
     let low = record::rank_of(f.low);
     let configured = record::rank_of(s.release);
-    let narrow_high = is_narrow(f.high);
-    let narrow_low = is_narrow(f.low);
+    let narrow_high = record::is_narrow_release(f.high);
+    let narrow_low = record::is_narrow_release(f.low);
     let header = header_size(s.octets, f.high, f.low);
     (f.opened <= f.appended)
         & (f.appended <= last)

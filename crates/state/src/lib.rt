@@ -72,6 +72,6 @@ pub struct Manager {
 // What routing found: whether a route fits, which one, and how many octets its filter has.
 pub struct Routed {
     pub found: bool,
-    pub at: usize,
+    pub at: u8,
     pub octets: u8,
 }

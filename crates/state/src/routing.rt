@@ -1,25 +1,10 @@
 // Routing (document 01, Routing and loss): a key goes to the route with the longest filter that is a prefix of it.
 ghost use mathlib.Core.Path.{_≡_};
 ghost use Prim.Native.Nat.{_≤_};
-ghost use lib.ListN.{length};
-ghost use Rattle.state.specs.Routing.{Routable, agree, fits, chosen, routeOf};
+ghost use Rattle.state.specs.Routing.{Routable, fits, chosen, routeOf};
 use crate::Manager;
 use crate::RouteSettings;
 use crate::Routed;
-
-// Whether the first n octets of filter and key agree.
-fn agrees(filter: [u8; 20], key: &[u8], n: usize) -> bool
-    requires { ⌜ (n ≤ 20) × (n ≤ length (now key)) ⌝ }
-    ensures { λ r. ⌜ r ≡ agree filter (now (key .entry)) n ⌝ }
-{
-    let mut same = true;
-    let mut i: usize = 0;
-    while i < n {
-        same = same & (filter[i] == key[i]);
-        i += 1;
-    }
-    same
-}
 
 // Whether the filter is a prefix of the key.
 fn is_prefix(s: RouteSettings, key: &[u8]) -> bool
@@ -31,11 +16,11 @@ fn is_prefix(s: RouteSettings, key: &[u8]) -> bool
         return false;
     }
     let filter = s.filter;
-    agrees(filter, key, n)
+    octets::are_alike(&filter, key, n)
 }
 
 // The better of the route found so far and route i, whose filter has so many octets and fits or not.
-fn better_of(b: Routed, i: usize, octets: u8, fit: bool) -> Routed
+fn better_of(b: Routed, i: u8, octets: u8, fit: bool) -> Routed
     ensures { λ r. ⌜ r ≡ chosen b i octets fit ⌝ }
 {
     if fit & (!b.found | (b.octets < octets)) {
@@ -65,7 +50,7 @@ pub fn route_of(m: Manager, key: &[u8]) -> Routed
         let r = m.routes[i];
         let s = r.settings;
         let fit = is_prefix(s, key);
-        b = better_of(b, i, s.octets, fit);
+        b = better_of(b, i as u8, s.octets, fit);
         i += 1;
     }
     b

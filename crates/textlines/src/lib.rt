@@ -2,19 +2,21 @@
 mod lines;
 mod page;
 mod parts;
+mod turns;
 mod words;
 
 pub use lines::Source;
 pub use lines::Taken;
 pub use lines::take_line;
 pub use page::Printer;
-pub use page::flush;
-pub use page::print_error;
 pub use page::put;
 pub use page::put_all;
 pub use page::put_end;
 pub use page::put_field;
 pub use parts::part;
+pub use turns::LINES;
+pub use turns::finish;
+pub use turns::turns_of;
 pub use words::NOWHERE;
 pub use words::Number;
 pub use words::Word;

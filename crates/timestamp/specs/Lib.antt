@@ -1,4 +1,3 @@
-pub mod Tests
 pub mod Timestamp
 pub mod LocalTime
 pub mod Stamp

@@ -10,7 +10,7 @@ use Prim.Native.Nat.{ℕ, _+_, _*_, _/_, _%_, _^_, _<_, _≤_}
 use native.Mathlib.Omega.{arith}
 use lib.Dec.{leb, ltb}
 use borrow.Author.Tests.{leb-true, le-leb, ltb-true, lt-ltb}
-use Rattle.timestamp.specs.Tests.{allOf, each}
+use Rattle.refusals.specs.Tests.{allOf, each}
 use Rattle.timestamp.specs.declared.Timestamp.{Timestamp}
 
 -- each field within its bits, from the top bit: month 4, day 5, hour 5, minute 6, sign 1, deviation hours 5, deviation minutes 6

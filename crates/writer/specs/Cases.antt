@@ -5,16 +5,17 @@ use mathlib.Core.Bool.{Bool, true, false, cond, not, _&&_, _||_}
 use mathlib.Core.List.{List, [], _∷_, _++_}
 use Prim.Native.Nat.{ℕ, _+_, _≤_, _<_}
 use native.Mathlib.Omega.{arith}
-use lib.Dec.{leb, eqb, ltb}
+use lib.Dec.{eqb, ltb}
 use lib.ListN.{length}
-use borrow.Author.Tests.{lt-ltb, le-ltb, ltb-false, leb-true, eq-eqb, ne-eqb, not-false}
+use borrow.Author.Tests.{lt-ltb, le-ltb, ltb-false, eq-eqb, ne-eqb, not-false}
 use Rattle.octets.specs.Number.{be}
 use Rattle.octets.specs.Splice.{splice}
 use Rattle.refusals.specs.Refusal.{or-false}
-use Rattle.timestamp.specs.Tests.{both}
+use Rattle.refusals.specs.Tests.{both}
 use Rattle.timestamp.specs.Timestamp.{narrow, right, narrow-bounds}
 use Rattle.record.specs.declared.Release.{Release}
 use Rattle.record.specs.Release.{narrowRelease, extensionOctets}
+use Rattle.record.specs.Order.{in-width}
 use Rattle.record.specs.Walk.{tallyOf}
 use Rattle.cdrfile.specs.declared.Header.{Header}
 use Rattle.cdrfile.specs.File.{privateOctets, headerLength, fileOctets, wrongOrder}
@@ -78,27 +79,19 @@ module _ (h : Header) (filter private records output : List ℕ) where
 -- What the tests that were passed say.
 
 -- each field of the header fits its bits
-release-bounds : (r : Release) → narrowRelease r ≡ true → (r .release < 8) × (r .version < 32)
-release-bounds r e =
-    let t = both (leb (r .release) 7 && leb (r .version) 31) (eqb (r .release) 7 || eqb (r .extension) 0) e in
-    let u = both (leb (r .release) 7) (leb (r .version) 31) (t .0) in
-    let release = leb-true (r .release) 7 (u .0) in
-    let version = leb-true (r .version) 31 (u .1) in
-    (omega arith, omega arith)
-
 pub writable : (h : Header) → beyondWidth h ≡ false → Writable h
 writable h e =
     let all = not-false (narrowRelease (h .high) && narrowRelease (h .low) && narrow (h .opened) && narrow (h .appended)) e in
     let t = both (narrowRelease (h .high) && narrowRelease (h .low) && narrow (h .opened)) (narrow (h .appended)) all in
     let u = both (narrowRelease (h .high) && narrowRelease (h .low)) (narrow (h .opened)) (t .0) in
     let v = both (narrowRelease (h .high)) (narrowRelease (h .low)) (u .0) in
-    let high = release-bounds (h .high) (v .0) in
-    let low = release-bounds (h .low) (v .1) in
+    let high = in-width (h .high) (v .0) in
+    let low = in-width (h .low) (v .1) in
     record {
-      high = high .0;
-      high-version = high .1;
-      low = low .0;
-      low-version = low .1;
+      high = high .release;
+      high-version = high .version;
+      low = low .release;
+      low-version = low .version;
       opened = narrow-bounds (h .opened) (u .1);
       appended = narrow-bounds (h .appended) (t .1);
     }

@@ -1,8 +1,6 @@
 // The writer of CDR files: a file over the start of an output, or the first refusal of 2, 10, 11, 13, 8, 17 in this order.
 use cdrfile::Header;
-use record::Release;
 ghost use mathlib.Core.Path.{_≡_};
-ghost use Rattle.record.specs.Release.{narrowRelease};
 ghost use Rattle.writer.specs.Writer.{beyondWidth, wrongValue, after, writeOf};
 ghost use Rattle.writer.specs.Cases.{answered};
 
@@ -22,19 +20,12 @@ fn answer(refusal: u8, octets: usize) -> Written
     }
 }
 
-// Whether a release and its version fit their bits, with no extension below release 7.
-fn is_narrow_release(r: Release) -> bool
-    ensures { λ b. ⌜ b ≡ narrowRelease r ⌝ }
-{
-    (r.release <= 7) & (r.version <= 31) & ((r.release == 7) | (r.extension == 0))
-}
-
 // Whether a field is beyond its width: refusal 2.
 fn beyond_width(h: Header) -> bool
     ensures { λ b. ⌜ b ≡ beyondWidth h ⌝ }
 {
-    let high = is_narrow_release(h.high);
-    let low = is_narrow_release(h.low);
+    let high = record::is_narrow_release(h.high);
+    let low = record::is_narrow_release(h.low);
     let opened = timestamp::is_narrow(h.opened);
     let appended = timestamp::is_narrow(h.appended);
     !(high & low & opened & appended)

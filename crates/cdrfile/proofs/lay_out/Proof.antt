@@ -1,6 +1,6 @@
 -- `cdrfile::lay_out` meets its contract: the pieces are written one behind another, and the file that fits leaves room for
 -- each. Assumes nothing.
-use mathlib.Core.Path.{_≡_, _∙_}
+use mathlib.Core.Path.{_∙_}
 use Prim.Native.Nat.{_+_, _≤_}
 use native.Mathlib.Omega.{arith}
 use lib.ListN.{length}

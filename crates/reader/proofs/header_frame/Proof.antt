@@ -1,6 +1,6 @@
 -- `reader::header_frame` meets its contract: each way out is a case of refusal 9 or the whole frame. Assumes nothing.
 use mathlib.Core.Path.{_≡_, _∙_, sym}
-use Prim.Native.Nat.{ℕ, _+_}
+use Prim.Native.Nat.{_+_}
 use native.Mathlib.Omega.{arith}
 use Rattle.reader.specs.Places.{plainLength}
 use Rattle.reader.specs.Frame.{over, under, plain-taken}

@@ -1,6 +1,6 @@
 -- `reader::part_of` meets its contract: both tests are the definition's, and a part within the file is taken. Assumes nothing.
 use mathlib.Core.Path.{_∙_, sym, ap}
-use Prim.Native.Nat.{ℕ, _+_, _-_}
+use Prim.Native.Nat.{ℕ, _-_}
 use native.Mathlib.Nat.{add-sub-cancel-left}
 use lib.ListN.{take, drop}
 use Rattle.reader.specs.Parts.{part-past, part-over, part-within}

@@ -3,7 +3,7 @@ use mathlib.Core.Path.{_≡_, _∙_, sym, ap}
 use Prim.Native.Nat.{ℕ, _+_, _<_}
 use native.Mathlib.Omega.{arith}
 use Rattle.octets.specs.Number.{num}
-use Rattle.reader.specs.Places.{headerLengthAt, filterLengthAt, plainLength, privateLengthAt}
+use Rattle.reader.specs.Places.{headerLengthAt, plainLength, privateLengthAt}
 use Rattle.reader.specs.Frame.{unsummed, empty, private-taken}
 use borrow.Author.Needs.{needs}
 use Rattle.reader.proofs.private_frame.Statement.{statement}

@@ -1,7 +1,6 @@
 -- `reader::wrong_records` meets its contract: each way out is a rule of the list, and the ones before it do not apply.
 -- Assumes nothing.
-use mathlib.Core.Path.{_∙_, sym, ap}
-use mathlib.Core.Bool.{not}
+use mathlib.Core.Path.{_∙_, sym}
 use borrow.Author.Tests.{eq-eqb, ne-eqb}
 use borrow.Author.Needs.{needs}
 use Rattle.reader.proofs.wrong_records.Statement.{statement}

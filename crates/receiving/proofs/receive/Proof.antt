@@ -15,8 +15,9 @@ use Rattle.manager.specs.declared.Outcome.{Outcome}
 use Rattle.manager.specs.Rules.{wrongFields}
 use Rattle.manager.specs.Events.{after, common}
 use Rattle.manager.specs.Receive.{isLost}
-use Rattle.receiving.specs.Cases.{usable, routed, unmarked, unroutedOr, lostOr, placedOr, receive-common, state-right, long-store, right-time, receive-wrong, receive-unrouted, receive-lost, receive-placed}
-use Rattle.receiving.specs.Plan.{Placeable}
+use Rattle.receiving.specs.Cases.{usable, routed, unmarked, unroutedOr, lostOr, receive-common, state-right, long-store, right-time, receive-wrong, receive-unrouted, receive-lost, receive-placed}
+use Rattle.placing.specs.Plan.{Placeable}
+use Rattle.placing.specs.Made.{placedOr}
 use Rattle.receiving.proofs.receive.Statement.{statement}
 use Rattle.receiving.proofs.receive.Tie as tie
 
@@ -37,7 +38,7 @@ abbrev at : tie.Else3 → ℕ
 at c = c .before .before .routed-to .result .at
 
 abbrev routing : tie.Else4 → tie.Else3
-routing c = c .before .before .before
+routing c = c .before .before .before .before
 
 passed : (c : tie.Else1) → first (common (from4 c .args .t1) (length (from4 c .args .store .now)) (from4 c .args .time) []) ≡ 0
 passed c = sym (c .before .common-refusal .ensures) ∙ c .if1 .left
@@ -130,24 +131,27 @@ returns-3 c =
     ∙ receive-unrouted (a .t1) (a .store .now) (a .output .now) (a .time) (a .a) (a .key .now) (a .body .now) (passed (behind4 e)) (passed5 e)
     (to .routed-to .ensures) (not-true _ (c .before .if3 .taken))
 
+cast-i : tie.Need-cast-i
+cast-i c = search needs
+
 mul-r : tie.Need-mul-r
-mul-r c = omega (arith, few c)
+mul-r c = omega (arith, few (c .before))
 
 element-copy-out-r : tie.Need-element-copy-out-r
-element-copy-out-r c = few c
+element-copy-out-r c = few (c .before)
 
 is-lost-requires : tie.Need-is-lost-requires
 is-lost-requires c κs =
-    let r = c .before in
+    let r = c .before .before in
     let a = start r .args in
     usable (a .a) (length (a .key .now)) (passed5 (behind5 r)) (route r .0)
 
 lost-requires : tie.Need-lost-requires
-lost-requires c κs = few (c .before .before .before)
+lost-requires c κs = few (c .before .before .before .before)
 
 returns-4 : tie.Need-returns-4
 returns-4 c =
-    let r = c .before .before .before .before in
+    let r = c .before .before .before .before .before in
     let to = r .before .before in
     let e = behind5 r in
     let a = start r .args in
@@ -192,6 +196,7 @@ receive-spec =
     routed-to-requires
     unrouted-requires
     returns-3
+    cast-i
     mul-r
     element-copy-out-r
     is-lost-requires

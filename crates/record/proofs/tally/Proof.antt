@@ -1,14 +1,12 @@
 -- `record::tally` meets its contract. The invariant: the records passed are counted, and a walk of the rest from there says
 -- what a walk of the whole says. Assumes nothing.
 use borrow.Author.Needs.{needs}
-use mathlib.Core.Path.{_≡_, _∙_, sym, ap}
+use mathlib.Core.Path.{_∙_, ap}
 use mathlib.Core.List.{List}
-use Prim.Native.Nat.{ℕ, _+_, _-_, _≤_, max, min}
+use Prim.Native.Nat.{ℕ, _-_, max, min}
 use native.Mathlib.Omega.{arith}
-use lib.ListN.{length, take, drop, length-take, length-drop}
-use Rattle.record.specs.declared.RecordHeader.{RecordHeader}
-use Rattle.record.specs.Release.{rank}
-use Rattle.record.specs.Step.{recordOf, recordLengthAt, Taken, taken, untaken}
+use lib.ListN.{length, length-take, length-drop}
+use Rattle.record.specs.Step.{Taken, taken, untaken}
 use Rattle.record.specs.Walk.{Walking, walking-none, walking-taken, walking-broken, walking-end}
 use Rattle.record.proofs.tally.Statement.{statement}
 use Rattle.record.proofs.tally.Tie as tie

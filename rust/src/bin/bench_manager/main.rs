@@ -1,5 +1,7 @@
 //! Times RECEIVE by the proved manager beside the plain one on the same records in the same run,
-//! and prints their ratio and records per second. Before that both must answer and write the same.
+//! and prints their ratios and records per second. Before that both must answer and write the same.
+//! The plain manager is timed twice: as it is, owning its state, and *judged*, asking at each event
+//! whether its state is within the bounds of refusal 18, as a manager must that is handed one.
 
 mod proved;
 
@@ -40,8 +42,8 @@ const CASES: [Case; 4] = [
 fn main() -> ExitCode {
     println!("RECEIVE of {BODY}-octet bodies, nanoseconds each, best of {RUNS} interleaved runs");
     println!(
-        "{:48} {:>9} {:>9} {:>6} {:>14} {:>14}",
-        "case", "proved", "plain", "ratio", "proved /s", "plain /s"
+        "{:48} {:>9} {:>9} {:>6} {:>9} {:>6} {:>14}",
+        "case", "proved", "plain", "ratio", "judged", "ratio", "proved /s"
     );
     for case in &CASES {
         if let Err(what) = run(case) {
@@ -89,6 +91,13 @@ impl Desk<Manager> {
         } = self;
         manager.receive(store, output, TIME, arrival)
     }
+
+    fn receive_judged(&mut self, arrival: &Arrival) -> manager::Answer {
+        if !black_box(&self.manager).is_within_bounds() {
+            return Err((18, 0));
+        }
+        self.receive(arrival)
+    }
 }
 
 fn run(case: &Case) -> Result<(), String> {
@@ -100,19 +109,32 @@ fn run(case: &Case) -> Result<(), String> {
     let body = Random::new(1).octets(BODY);
     let arrivals: Vec<Arrival> = filters.iter().map(|key| arrival(key, &body)).collect();
     compare(&mut proved, &mut plain, &arrivals)?;
-    let pair = best_of_both(
+    let records = || arrivals.iter().cycle().take(RECORDS);
+    let plain_pair = best_of_both(
         || {
-            for arrival in arrivals.iter().cycle().take(RECORDS) {
+            for arrival in records() {
                 black_box(proved.receive(black_box(arrival)));
             }
         },
         || {
-            for arrival in arrivals.iter().cycle().take(RECORDS) {
+            for arrival in records() {
                 let _ = black_box(plain.receive(black_box(arrival)));
             }
         },
     );
-    print_case(case.name, pair);
+    let judged_pair = best_of_both(
+        || {
+            for arrival in records() {
+                black_box(proved.receive(black_box(arrival)));
+            }
+        },
+        || {
+            for arrival in records() {
+                let _ = black_box(plain.receive_judged(black_box(arrival)));
+            }
+        },
+    );
+    print_case(case.name, plain_pair, judged_pair);
     Ok(())
 }
 
@@ -204,13 +226,13 @@ fn numbers(answer: manager::Answer) -> proved::Answer {
     }
 }
 
-fn print_case(name: &str, pair: [f64; 2]) {
-    let [proved, plain] = pair.map(|run| run / RECORDS as f64);
-    let per_second = |nanoseconds: f64| 1e9 / nanoseconds;
+fn print_case(name: &str, plain_pair: [f64; 2], judged_pair: [f64; 2]) {
+    let [proved, plain] = plain_pair.map(|run| run / RECORDS as f64);
+    let [beside, judged] = judged_pair.map(|run| run / RECORDS as f64);
     println!(
-        "{name:48} {proved:9.1} {plain:9.1} {:6.2} {:14.0} {:14.0}",
+        "{name:48} {proved:9.1} {plain:9.1} {:6.2} {judged:9.1} {:6.2} {:14.0}",
         proved / plain,
-        per_second(proved),
-        per_second(plain)
+        beside / judged,
+        1e9 / proved
     );
 }

@@ -1,5 +1,4 @@
 -- `filename::reading::are_same` meets its contract: two lengths, then the octets. Assumes nothing.
-use mathlib.Core.Path.{_∙_}
 use borrow.Author.Tests.{eq-eqb, ne-eqb}
 use Rattle.filename.specs.Reading.{same}
 use borrow.Author.Needs.{needs}

@@ -1,5 +1,4 @@
 -- `filename::reading::one_more` meets its contract: its two cases are the definition's. Assumes nothing.
-use mathlib.Core.Path.{sym}
 use native.Mathlib.Numerals.{add-one}
 use borrow.Author.Needs.{needs}
 use Rattle.filename.proofs.reading.one_more.Statement.{statement}

@@ -1,6 +1,5 @@
 -- `filename::right::is_right` meets its contract: its three tests are the definition's. Assumes nothing.
 use borrow.Author.Needs.{needs}
-use mathlib.Core.Bool.{_&&_}
 use Rattle.filename.specs.Name.{right}
 use Rattle.filename.proofs.right.is_right.Statement.{statement}
 use Rattle.filename.proofs.right.is_right.Tie as tie

@@ -1,5 +1,5 @@
 -- `filename::spelling::closing_of` meets its contract, octet by octet. Assumes nothing.
-use mathlib.Core.List.{List, [], _∷_}
+use mathlib.Core.List.{[], _∷_}
 use borrow.Author.Needs.{needs}
 use Rattle.filename.proofs.spelling.closing_of.Statement.{statement}
 use Rattle.filename.proofs.spelling.closing_of.Tie as tie

@@ -1,5 +1,5 @@
 -- `filename::spelling::ten_digits` meets its contract, digit by digit. Assumes nothing.
-use mathlib.Core.List.{List, [], _∷_}
+use mathlib.Core.List.{[], _∷_}
 use borrow.Author.Needs.{needs}
 use Rattle.filename.proofs.spelling.ten_digits.Statement.{statement}
 use Rattle.filename.proofs.spelling.ten_digits.Tie as tie

@@ -1,6 +1,5 @@
 -- `filename::spelling::width_of` meets its contract: each way out is a number between two powers of ten. Assumes nothing.
-use mathlib.Core.Path.{_≡_, sym}
-use Prim.Native.Nat.{ℕ, _≤_}
+use mathlib.Core.Path.{sym}
 use native.Mathlib.Omega.{arith}
 use Rattle.filename.specs.Decimal.{width-skip, width-is, width-top}
 use Rattle.filename.proofs.spelling.width_of.Statement.{statement}

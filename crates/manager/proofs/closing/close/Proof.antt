@@ -92,8 +92,8 @@ mul-closed c = omega (arith, there (behind (c .before .before .before .before .b
 element-set-from-closed : tie.Need-element-set-from-closed
 element-set-from-closed c = there (behind (c .before .before .before .before .before .before .before))
 
-cast-t24 : tie.Need-cast-t24
-cast-t24 c = omega (arith, there (behind (c .before .before .before .before .before .before .before)))
+cast-t23 : tie.Need-cast-t23
+cast-t23 c = omega (arith, there (behind (c .before .before .before .before .before .before .before)))
 
 same-length : tie.Need-same-length
 same-length c = search needs
@@ -129,7 +129,7 @@ close-spec =
     effective-time-requires
     mul-closed
     element-set-from-closed
-    cast-t24
+    cast-t23
     same-length
     same-length-2
     returns-3)

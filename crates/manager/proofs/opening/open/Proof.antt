@@ -55,8 +55,8 @@ mul-opened c = search needs
 element-set-from-opened : tie.Need-element-set-from-opened
 element-set-from-opened c = there (c .before .before .before)
 
-cast-t22 : tie.Need-cast-t22
-cast-t22 c = omega (arith, there (c .before .before .before))
+cast-t21 : tie.Need-cast-t21
+cast-t21 c = omega (arith, there (c .before .before .before))
 
 returns-2 : tie.Need-returns-2
 returns-2 c =
@@ -78,5 +78,5 @@ open-spec =
     opened-route-requires
     mul-opened
     element-set-from-opened
-    cast-t22
+    cast-t21
     returns-2)

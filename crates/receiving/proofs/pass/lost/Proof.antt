@@ -26,8 +26,8 @@ mul-c c = search needs
 element-set-from-c : tie.Need-element-set-from-c
 element-set-from-c c = search needs
 
-cast-t17 : tie.Need-cast-t17
-cast-t17 c = search needs
+cast-t15 : tie.Need-cast-t15
+cast-t15 c = search needs
 
 returns-2 : tie.Need-returns-2
 returns-2 c = rw (ne-eqb _ _ (c .before .if1 .left)) (cc)
@@ -43,5 +43,5 @@ lost-spec =
     lost-route-requires
     mul-c
     element-set-from-c
-    cast-t17
+    cast-t15
     returns-2)

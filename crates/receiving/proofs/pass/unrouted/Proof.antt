@@ -14,11 +14,11 @@ returns c = c .refuse .ensures ∙ sym (rw (eq-eqb _ _ (c .before .if1 .taken)))
 noted-routes-requires : tie.Need-noted-routes-requires
 noted-routes-requires c κs = search needs
 
-add-q : tie.Need-add-q
-add-q c = search needs
+add-m : tie.Need-add-m
+add-m c = search needs
 
 returns-2 : tie.Need-returns-2
 returns-2 c = rw (ne-eqb _ _ (c .before .before .if1 .left)) (cc)
 
 pub unrouted-spec : {M : Type 1} → statement M
-unrouted-spec = tie.close (tie.spec refuse-requires returns noted-routes-requires add-q returns-2)
+unrouted-spec = tie.close (tie.spec refuse-requires returns noted-routes-requires add-m returns-2)

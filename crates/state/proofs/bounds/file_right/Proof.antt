@@ -17,11 +17,11 @@ rank-of-requires-2 c κs = search needs
 rank-of-requires-3 : tie.Need-rank-of-requires-3
 rank-of-requires-3 c κs = search needs
 
-is-narrow-requires : tie.Need-is-narrow-requires
-is-narrow-requires c κs = search needs
+is-narrow-release-requires : tie.Need-is-narrow-release-requires
+is-narrow-release-requires c κs = search needs
 
-is-narrow-requires-2 : tie.Need-is-narrow-requires-2
-is-narrow-requires-2 c κs = search needs
+is-narrow-release-requires-2 : tie.Need-is-narrow-release-requires-2
+is-narrow-release-requires-2 c κs = search needs
 
 header-size-requires : tie.Need-header-size-requires
 header-size-requires c κs = search needs
@@ -56,8 +56,8 @@ returns c =
     let high = c .before .before .before .before .before .before .before .before .before .before .before .before .before .before .before .before .before .before .before .before .before .before .rank-of .ensures in
     let low = c .before .before .before .before .before .before .before .before .before .before .before .before .before .before .before .before .before .before .before .before .before .rank-of2 .ensures in
     let configured = c .before .before .before .before .before .before .before .before .before .before .before .before .before .before .before .before .before .before .before .before .rank-of3 .ensures in
-    let narrow-high = c .before .before .before .before .before .before .before .before .before .before .before .before .before .before .before .before .before .before .before .is-narrow .ensures in
-    let narrow-low = c .before .before .before .before .before .before .before .before .before .before .before .before .before .before .before .before .before .before .is-narrow2 .ensures in
+    let narrow-high = c .before .before .before .before .before .before .before .before .before .before .before .before .before .before .before .before .before .before .before .is-narrow-release .ensures in
+    let narrow-low = c .before .before .before .before .before .before .before .before .before .before .before .before .before .before .before .before .before .before .is-narrow-release2 .ensures in
     let header = c .before .before .before .before .before .before .before .before .before .before .before .before .before .before .before .before .before .header-size .ensures in
     λ i. leb (f .opened) (f .appended)
     && leb (f .appended) (a .last)
@@ -81,8 +81,8 @@ file-right-spec =
     rank-of-requires
     rank-of-requires-2
     rank-of-requires-3
-    is-narrow-requires
-    is-narrow-requires-2
+    is-narrow-release-requires
+    is-narrow-release-requires-2
     header-size-requires
     cast-result
     cast-result-2

@@ -33,6 +33,9 @@ is-prefix-requires c κs =
     let below : i < start .args .t1 .count = omega arith in
     start .pre .short i below
 
+cast-better-of : tie.Need-cast-better-of Inv-loop μ-loop
+cast-better-of c = search needs
+
 better-of-requires : tie.Need-better-of-requires Inv-loop μ-loop
 better-of-requires c κs = search needs
 
@@ -63,6 +66,7 @@ route-of-spec =
     mul-r
     element-copy-out-r
     is-prefix-requires
+    cast-better-of
     better-of-requires
     add-i
     loop-less

@@ -1,0 +1,227 @@
+-- What placing a record puts together (document 01, The events): what the steps need of state, store and output, and that the
+-- answer, the state, the store and the output that they leave are those of the definition. Assumes nothing.
+use mathlib.Core.Path.{_≡_, refl, sym, ap, subst, _∙_}
+use mathlib.Core.Bool.{Bool, true, false, cond}
+use mathlib.Core.List.{List, [], _++_}
+use Prim.Native.Nat.{ℕ, _+_, _≤_, _<_}
+use native.Mathlib.Omega.{arith}
+use lib.Dec.{ltb}
+use lib.ListN.{length}
+use borrow.Author.Tests.{lt-ltb, le-ltb}
+use Rattle.octets.specs.Splice.{splice, splice-then}
+use Rattle.record.specs.declared.RecordHeader.{RecordHeader}
+use Rattle.record.specs.Record.{recordOctets}
+use Rattle.record.specs.Order.{in-width}
+use Rattle.state.specs.declared.RouteSettings.{RouteSettings}
+use Rattle.state.specs.declared.Route.{Route}
+use Rattle.state.specs.declared.Manager.{Manager}
+use Rattle.state.specs.Manager.{routeAt, base, withRoute, withTime}
+use Rattle.state.specs.Loss.{indicator}
+use Rattle.state.specs.Within.{SettingsWithin, RouteWithin, within}
+use Rattle.state.specs.Regions.{region-within, regions-all}
+use Rattle.filing.specs.Closing.{closedSize}
+use Rattle.filing.specs.Closed.{closed-from}
+use Rattle.filing.specs.Needs.{Appendable, Closable}
+use Rattle.manager.specs.declared.Arrival.{Arrival}
+use Rattle.manager.specs.declared.Outcome.{Outcome}
+use Rattle.manager.specs.Rules.{headerFor, recordSize, appendedRoute}
+use Rattle.manager.specs.Events.{After, after, refused, answered}
+use Rattle.manager.specs.Receive.{turns, ready, placedSize, placedAt, storeWith, turnedFile, filledFile}
+use Rattle.placing.specs.declared.Plan.{Plan}
+use Rattle.placing.specs.Plan.{planned, finishedBy, Placeable, suitable, Roomy, ready-roomy}
+use Rattle.placing.specs.Files.{closedIf, sizeIf, length-if, closed-behind}
+
+-- a record that is placed, or 17 where the files that it closes are longer than the output
+abbrev pub placedOr : Manager → List ℕ → List ℕ → ℕ → Arrival → List ℕ → ℕ → After
+placedOr m store output t a body i =
+    cond (ltb (length output) (placedSize (routeAt m i) a (length body) t))
+    (after (refused 17 (placedSize (routeAt m i) a (length body) t) m) store output)
+    (placedAt m store output t a body i)
+
+-- what the steps of a plan need: the record fits its region, and each file that closes fits the output, the second behind the first
+pub record Carried (m : Manager) (store output : List ℕ) (r : Route) (p : Plan) (h : RecordHeader) (body : List ℕ) (i : ℕ) : Type 0 where
+  pub few : i ≤ 8
+  pub append : Appendable store (base m i) (r .settings .limit) (p .used) h body
+  pub before : p .turns ≡ true → Closable m r (indicator (r .losses) (r .note)) store (base m i) output 0
+  pub behind : p .fills ≡ true
+      → Closable m (p .holding) (indicator (p .holding .losses) (p .holding .note)) store (base m i) output (sizeIf (p .turns) r)
+
+-- only the lengths of store and output matter to a closing, so what is written before it does not
+pub closable-kept : {m : Manager} {r : Route} {octet at : ℕ} {store store′ output output′ : List ℕ} {octet′ from from′ at′ : ℕ}
+    → octet′ ≡ octet → from′ ≡ from → at′ ≡ at → length store′ ≡ length store → length output′ ≡ length output
+    → Closable m r octet store from output at → Closable m r octet′ store′ from′ output′ at′
+closable-kept eo ef ea es eu c =
+    record {
+      headed = record { opened = c .headed .opened; appended = c .headed .appended; bias = c .headed .bias; lost = eo ∙ c .headed .lost };
+      high = c .high;
+      high-version = c .high-version;
+      low = c .low;
+      low-version = c .low-version;
+      filter = c .filter;
+      count = c .count;
+      records = omega (arith, c .records);
+      size = c .size;
+      room = omega (arith, c .room);
+    }
+
+-- what the steps leave: the second file stands behind the first, whose length is known
+module _ (m : Manager) (store output : List ℕ) (r : Route) (p : Plan) (h : RecordHeader) (body : List ℕ) (i : ℕ) where
+  pub carried-made : Carried m store output r p h body i → length (r .settings .filter) ≡ 20 → {from at : ℕ} {store′ o₁ o₂ : List ℕ}
+      → from ≡ base m i
+      → at ≡ sizeIf (p .turns) r
+      → o₁ ≡ splice output 0 (closedIf (p .turns) m r (p .reason) store from)
+      → store′ ≡ splice store (from + p .used) (recordOctets (record { header = h; body = body }))
+      → o₂ ≡ splice o₁ at (closedIf (p .fills) m (p .holding) 3 store′ from)
+      → (store′ ≡ splice store (base m i + p .used) (recordOctets (record { header = h; body = body })))
+      × (o₂ ≡ splice output 0 (closedIf (p .turns) m r (p .reason) store (base m i) ++ closedIf (p .fills) m (p .holding) 3 store′ (base m i)))
+  carried-made c twenty {from} {at} {store′} {o₁} {o₂} ef ea e₁ es e₂ =
+      let one = closedIf (p .turns) m r (p .reason) store (base m i) in
+      let two = closedIf (p .fills) m (p .holding) 3 store′ (base m i) in
+      let l : length one ≡ sizeIf (p .turns) r =
+      length-if m r (p .reason) store (base m i) twenty (p .turns) (λ e. (c .before e .records, c .before e .filter)) in
+      let f₁ : o₁ ≡ splice output 0 one = e₁ ∙ ap (λ (k : ℕ). splice output 0 (closedIf (p .turns) m r (p .reason) store k)) ef in
+      let f₂ : o₂ ≡ splice (splice output 0 one) at two = e₂ ∙ (λ j. splice (f₁ j) at (closedIf (p .fills) m (p .holding) 3 store′ (ef j))) in (
+        es ∙ ap (λ (k : ℕ). splice store (k + p .used) (recordOctets (record { header = h; body = body }))) ef,
+        f₂ ∙ splice-then output 0 one (omega arith) two at (omega arith),
+      )
+
+-- what a plan leaves of the state, with the answer
+abbrev pub placedOutcome : Manager → ℕ → ℕ → Plan → ℕ → Outcome
+placedOutcome m t i p octets =
+    record {
+      answer = answered 2 i (cond (p .turns) 1 0 + cond (p .fills) 1 0) octets;
+      manager = withTime (withRoute m i (finishedBy p)) t;
+    }
+
+-- what the plan says of the octets that are needed
+pub needed-made : (r : Route) (a : Arrival) (body t : ℕ) {p : Plan} {before behind : ℕ} → p ≡ planned r a body t → before ≡ sizeIf (p .turns) r
+    → behind ≡ sizeIf (p .fills) (p .holding) → before + behind ≡ placedSize r a body t
+needed-made r a body t ep eb ee = (λ i. eb i + ee i) ∙ (λ i. sizeIf (ep i .turns) r + sizeIf (ep i .fills) (ep i .holding))
+
+-- each of the two files has its part of the octets that are needed
+first-part : {b : Bool} (x y : ℕ) {n : ℕ} → cond b x 0 + y ≤ n → b ≡ true → 0 + x ≤ n
+first-part {b} x y {n} h e = let k : x + y ≤ n = rw e at h in omega arith
+
+both-parts : {b : Bool} (x y : ℕ) {n : ℕ} → x + cond b y 0 ≤ n → b ≡ true → x + y ≤ n
+both-parts x y h e = rw e at h
+
+-- only an open file closes before the record
+turns-open : (r : Route) (a : Arrival) (body : ℕ) → turns r a body ≡ true → r .«open» ≡ true
+turns-open r a body e = go (r .«open») refl
+  where
+    go : (b : Bool) → r .«open» ≡ b → b ≡ true
+    go true p = refl
+    go false p = rw p at e
+
+module _ (m : Manager) (store output : List ℕ) (from at : ℕ) (bias : m .bias ≤ 2878) where
+  -- an open file of a state within its bounds can close
+  open-closable : (r : Route) → RouteWithin 52595999 r → r .«open» ≡ true → from + r .settings .limit ≤ length store → at + closedSize r ≤ length output
+      → Closable m r (indicator (r .losses) (r .note)) store from output at
+  open-closable r w o region room =
+      let f = w .file o in
+      let s = w .settings in
+      let high = in-width (r .file .high) (f .high) in
+      let low = in-width (r .file .low) (f .low) in
+      let size : closedSize r ≤ r .settings .limit = f .size in
+      record {
+        headed = record { opened = omega (arith, f .opened, f .appended); appended = f .appended; bias = bias; lost = refl };
+        high = high .release;
+        high-version = high .version;
+        low = low .release;
+        low-version = low .version;
+        filter = s .octets;
+        count = omega (arith, f .records, s .limit-most);
+        records = omega arith;
+        size = omega (arith, s .limit-most);
+        room = room;
+      }
+
+  -- and so can a file with the record in it
+  held-closable : (s : RouteSettings) (q : Route) (h : RecordHeader) (octets t : ℕ) → SettingsWithin s → Roomy s q h octets → t ≤ 52595999
+      → from + s .limit ≤ length store → at + closedSize (appendedRoute q h octets t) ≤ length output
+      → Closable m (appendedRoute q h octets t) (indicator (q .losses) (q .note)) store from output at
+  held-closable s q h octets t w y time region room =
+      let e : q .settings .octets ≡ s .octets = ap (λ (x : RouteSettings). x .octets) (y .settings) in
+      let size : closedSize (appendedRoute q h octets t) ≤ s .limit = omega (arith, y .size) in
+      record {
+        headed = record { opened = y .opened; appended = time; bias = bias; lost = refl };
+        high = y .high .release;
+        high-version = y .high .version;
+        low = y .low .release;
+        low-version = y .low .version;
+        filter = omega (arith, w .octets);
+        count = omega (arith, y .count, y .size, w .limit-most);
+        records = omega (arith, y .size);
+        size = omega (arith, w .limit-most);
+        room = room;
+      }
+
+module _ (m : Manager) (store output : List ℕ) (t : ℕ) (a : Arrival) (body : List ℕ) (i : ℕ) where
+  abbrev r : Route
+  r = routeAt m i
+
+  abbrev p : Plan
+  p = planned r a (length body) t
+
+  -- refused by 17
+  pub place-refused : {o : Outcome} {octets : ℕ} → o ≡ refused 17 octets m → octets ≡ placedSize r a (length body) t → length output < octets
+      → after o store output ≡ placedOr m store output t a body i
+  place-refused {o} {octets} eo en less =
+      let k : length output < placedSize r a (length body) t = omega arith in
+      let b : ltb (length output) (placedSize r a (length body) t) ≡ true = lt-ltb _ _ k in
+      ap (λ (x : Outcome). after x store output) (eo ∙ ap (λ (n : ℕ). refused 17 n m) en) ∙ sym (rw b)
+
+  module _ (l : Placeable m (length store) t a (length body) i) where
+    region : base m i + r .settings .limit ≤ length store
+    region =
+        let w = within m (l .right) in
+        omega (arith, region-within m i (m .count) (l .inside), regions-all m (w .few), l .regions)
+
+    roomy : Roomy (r .settings) (ready r a (length body) t) (headerFor a) (recordSize a (length body))
+    roomy = ready-roomy r a (length body) t (suitable l)
+
+    appendable : Appendable store (base m i) (r .settings .limit) (p .used) (headerFor a) body
+    appendable =
+        record {
+          narrow = record { release = l .usable .release; version = l .usable .version; format = l .usable .format; ts = l .usable .ts };
+          short = suitable l .short;
+          region = region;
+          room = omega (arith, roomy .size);
+        }
+
+    -- the plan can be carried out
+    pub carried : placedSize r a (length body) t ≤ length output → {p′ : Plan} {h : RecordHeader} → p′ ≡ p → h ≡ headerFor a → Carried m store output r p′ h body i
+    carried fits {p′} {h} ep eh =
+        let w = within m (l .right) in
+        let s = suitable l in
+        let c : Carried m store output r p (headerFor a) body i =
+        record {
+          few = omega (arith, l .inside, w .few);
+          append = appendable;
+          before = λ e. open-closable m store output (base m i) 0 (w .bias) r (s .within) (turns-open r a (length body) e) region (first-part (closedSize r) (sizeIf (p .fills) (p .holding)) fits e);
+          behind = λ e. held-closable m store output (base m i) (sizeIf (p .turns) r) (w .bias) (r .settings) (ready r a (length body) t) (headerFor a)
+              (recordSize a (length body)) t (s .within .settings) roomy (l .time) region (both-parts (sizeIf (p .turns) r) (closedSize (p .holding)) fits e);
+        } in
+        subst (λ (x : Plan). Carried m store output r x h body i) (sym ep)
+        (subst (λ (g : RecordHeader). Carried m store output r p g body i) (sym eh) c)
+
+    -- and what it leaves is what the definition says
+    pub place-made : i < length (m .routes) → {p′ : Plan} {h : RecordHeader} {o : Outcome} {octets : ℕ} {store′ output′ : List ℕ}
+        → p′ ≡ p → h ≡ headerFor a → octets ≡ placedSize r a (length body) t → octets ≤ length output
+        → store′ ≡ splice store (base m i + p′ .used) (recordOctets (record { header = h; body = body }))
+        → output′ ≡ splice output 0 (closedIf (p′ .turns) m r (p′ .reason) store (base m i) ++ closedIf (p′ .fills) m (p′ .holding) 3 store′ (base m i))
+        → o ≡ placedOutcome m t i p′ octets
+        → after o store′ output′ ≡ placedOr m store output t a body i
+    place-made there {p′} {h} {o} {octets} {store′} {output′} ep eh en fits es eo ea =
+        let k : placedSize r a (length body) t ≤ length output = omega arith in
+        let b : ltb (length output) (placedSize r a (length body) t) ≡ false = le-ltb _ _ k in
+        let s : store′ ≡ storeWith m store i a body t = es ∙ (λ j. splice store (base m i + ep j .used) (recordOctets (record { header = eh j; body = body }))) in
+        let one : closedIf (p′ .turns) m r (p′ .reason) store (base m i) ≡ turnedFile m store i a (length body) =
+        (λ j. closedIf (ep j .turns) m r (ep j .reason) store (base m i))
+        ∙ ap (λ (x : List ℕ). cond (p .turns) x []) (sym (closed-from m store i (p .reason))) in
+        let two : closedIf (p′ .fills) m (p′ .holding) 3 store′ (base m i) ≡ filledFile m store i a body t =
+        (λ j. closedIf (ep j .fills) m (ep j .holding) 3 (s j) (base m i))
+        ∙ ap (λ (x : List ℕ). cond (p .fills) x []) (closed-behind m (p .holding) (storeWith m store i a body t) i 3 there (roomy .settings)) in
+        let out : output′ ≡ splice output 0 (turnedFile m store i a (length body) ++ filledFile m store i a body t) = eo ∙ (λ j. splice output 0 (one j ++ two j)) in
+        let answer : o ≡ placedOutcome m t i p (placedSize r a (length body) t) = ea ∙ (λ j. placedOutcome m t i (ep j) (en j)) in
+        (λ j. after (answer j) (s j) (out j)) ∙ sym (rw b)
