@@ -15,7 +15,7 @@ use Rattle.refusals.specs.Tests.{both}
 use Rattle.record.specs.Order.{in-width}
 use Rattle.state.specs.declared.Route.{Route}
 use Rattle.state.specs.declared.Manager.{Manager}
-use Rattle.state.specs.Manager.{routeAt, base, regions, effective, withRoute, withTime}
+use Rattle.state.specs.Manager.{routeAt, base, regions, effective}
 use Rattle.state.specs.Loss.{indicator}
 use Rattle.state.specs.Bounds.{stateRight}
 use Rattle.state.specs.Regions.{region-within, regions-all}
@@ -24,7 +24,7 @@ use Rattle.filing.specs.Closing.{closedFile, closedSize}
 use Rattle.filing.specs.Needs.{Closable}
 use Rattle.manager.specs.declared.Outcome.{Outcome}
 use Rattle.manager.specs.Rules.{openedRoute, closedRoute, allowed}
-use Rattle.manager.specs.Events.{After, after, answered, refused, settled, common, openRules, opened, openOf, closed, closeOf, dueSize, ticked, tickOf}
+use Rattle.manager.specs.Events.{After, after, changed, refused, settled, common, openRules, opened, openOf, closed, closeOf, dueSize, ticked, tickOf}
 
 -- Lists of refusals in two parts: every event tests some first, and 17 last.
 
@@ -151,10 +151,10 @@ module _ (m : Manager) (store output : List ℕ) (time route : ℕ) where
 
   -- what the code puts together is what is to be
   pub opened-made : {t : ℕ} {r : Route} → t ≡ effective m time → r ≡ openedRoute (routeAt m route) t
-      → after (record { answer = answered 1 route 0 0; manager = withTime (withRoute m route r) t }) store output ≡ opened m store output time route
-  opened-made {t} et er =
-      (λ i. after (record { answer = answered 1 route 0 0; manager = withTime (withRoute m route (er i)) t }) store output)
-      ∙ (λ i. after (record { answer = answered 1 route 0 0; manager = withTime (withRoute m route (openedRoute (routeAt m route) (et i))) (et i) }) store output)
+      → {o : Outcome} → o ≡ changed m t route r 1 0 0 → after o store output ≡ opened m store output time route
+  opened-made {t} et er eo =
+      (λ i. after (eo i) store output) ∙ (λ i. after (changed m t route (er i) 1 0 0) store output)
+      ∙ (λ i. after (changed m (et i) route (openedRoute (routeAt m route) (et i)) 1 0 0) store output)
 
 -- the route is there
 pub open-there : (m : Manager) (octets time route : ℕ) → first (openRules m octets time route) ≡ 0 → route < 8
@@ -197,9 +197,9 @@ module _ (m : Manager) (store output : List ℕ) (time route reason : ℕ) where
   -- what the code puts together is what is to be
   pub closed-made : {t size : ℕ} {r : Route} {out : List ℕ} → t ≡ effective m time → size ≡ closedSize (routeAt m route)
       → r ≡ closedRoute (routeAt m route) → out ≡ splice output 0 (closedFile m store route reason)
-      → after (record { answer = answered 5 route 1 size; manager = withTime (withRoute m route r) t }) store out ≡ closed m store output time route reason
-  closed-made et es er eo =
-      λ i. after (record { answer = answered 5 route 1 (es i); manager = withTime (withRoute m route (er i)) (et i) }) store (eo i)
+      → {o : Outcome} → o ≡ changed m t route r 5 1 size → after o store out ≡ closed m store output time route reason
+  closed-made {out = out} et es er eo ec =
+      (λ i. after (ec i) store out) ∙ (λ i. after (changed m (et i) route (er i) 5 1 (es i)) store (eo i))
 
 -- reasons that CLOSE may give are octets
 allowed-octet : (reason : ℕ) → allowed reason ≡ true → reason < 256

@@ -7,6 +7,7 @@ use lib.Dec.{ltb, leb, eqb}
 use lib.ListN.{length}
 use Rattle.octets.specs.Splice.{splice}
 use Rattle.refusals.specs.Refusal.{Rule, _when_, first}
+use Rattle.state.specs.declared.Route.{Route}
 use Rattle.state.specs.declared.Manager.{Manager}
 use Rattle.state.specs.Manager.{routeAt, regions, effective, withRoute, withTime}
 use Rattle.state.specs.Bounds.{stateRight}
@@ -37,6 +38,11 @@ settled (suc n) needed m store output done = after (refused (suc n) needed m) st
 abbrev pub answered : ℕ → ℕ → ℕ → ℕ → Answer
 answered outcome route files octets = record { refusal = 0; outcome = outcome; route = route; files = files; octets = octets }
 
+-- an accepted event at time t that leaves the route i as r
+abbrev pub changed : Manager → ℕ → ℕ → Route → ℕ → ℕ → ℕ → Outcome
+changed m t i r outcome files octets =
+    record { answer = answered outcome i files octets; manager = withTime (withRoute m i r) t }
+
 -- 18, 16, 4: what every event tests first
 abbrev pub common : Manager → ℕ → ℕ → List Rule → List Rule
 common m store time rules =
@@ -55,12 +61,7 @@ openRules m store time route =
 
 abbrev pub opened : Manager → List ℕ → List ℕ → ℕ → ℕ → After
 opened m store output time route =
-    after
-    (record {
-      answer = answered 1 route 0 0;
-      manager = withTime (withRoute m route (openedRoute (routeAt m route) (effective m time))) (effective m time);
-    })
-    store output
+    after (changed m (effective m time) route (openedRoute (routeAt m route) (effective m time)) 1 0 0) store output
 
 unfoldable pub openOf : Manager → List ℕ → List ℕ → ℕ → ℕ → After
 openOf m store output time route =
@@ -79,10 +80,7 @@ closeRules m store output time route reason =
 abbrev pub closed : Manager → List ℕ → List ℕ → ℕ → ℕ → ℕ → After
 closed m store output time route reason =
     after
-    (record {
-      answer = answered 5 route 1 (closedSize (routeAt m route));
-      manager = withTime (withRoute m route (closedRoute (routeAt m route))) (effective m time);
-    })
+    (changed m (effective m time) route (closedRoute (routeAt m route)) 5 1 (closedSize (routeAt m route)))
     store
     (splice output 0 (closedFile m store route reason))
 

@@ -11,12 +11,12 @@ use Rattle.refusals.specs.Refusal.{Rule, _when_, first}
 use Rattle.record.specs.Record.{Record, recordOctets}
 use Rattle.state.specs.declared.Route.{Route}
 use Rattle.state.specs.declared.Manager.{Manager}
-use Rattle.state.specs.Manager.{routeAt, base, effective, withRoute, withTime}
+use Rattle.state.specs.Manager.{routeAt, base, effective, withRoute}
 use Rattle.state.specs.Loss.{lost}
 use Rattle.filing.specs.Closing.{closedFile, closedSize}
 use Rattle.manager.specs.declared.Arrival.{Arrival}
 use Rattle.manager.specs.Rules.{openedRoute, closedRoute, lostRoute, notedRoute, appendedRoute, differs, exceeds, full, wrongFields, headerFor, recordSize, routedTo}
-use Rattle.manager.specs.Events.{After, after, answered, settled, common}
+use Rattle.manager.specs.Events.{After, after, answered, changed, settled, common}
 
 -- what becomes of a record
 abbrev pub isLost : Manager → Arrival → ℕ → ℕ → Bool
@@ -106,15 +106,12 @@ unrouted m store output t =
 
 abbrev pub lostAt : Manager → List ℕ → List ℕ → ℕ → ℕ → After
 lostAt m store output t i =
-    after (record { answer = answered 3 i 0 0; manager = withTime (withRoute m i (lostRoute (routeAt m i))) t }) store output
+    after (changed m t i (lostRoute (routeAt m i)) 3 0 0) store output
 
 abbrev pub placedAt : Manager → List ℕ → List ℕ → ℕ → Arrival → List ℕ → ℕ → After
 placedAt m store output t a body i =
     after
-    (record {
-      answer = answered 2 i (placedFiles (routeAt m i) a (length body) t) (placedSize (routeAt m i) a (length body) t);
-      manager = withTime (withRoute m i (finished (routeAt m i) a (length body) t)) t;
-    })
+    (changed m t i (finished (routeAt m i) a (length body) t) 2 (placedFiles (routeAt m i) a (length body) t) (placedSize (routeAt m i) a (length body) t))
     (storeWith m store i a body t)
     (splice output 0 (turnedFile m store i a (length body) ++ filledFile m store i a body t))
 

@@ -4,8 +4,8 @@ ghost use Rattle.refusals.specs.Refusal.{first};
 ghost use Rattle.manager.specs.Rules.{allowed};
 ghost use Rattle.manager.specs.Events.{closeOf, after};
 ghost use Rattle.manager.specs.Cases.{closeFirst, Closes, Closed};
-use crate::Answer;
 use crate::Outcome;
+use crate::checks::changed;
 use crate::checks::either;
 use crate::checks::refuse;
 use crate::checks::route_refusal;
@@ -55,7 +55,7 @@ fn close_refusal(m: Manager, store: usize, time: u32, route: u32, reason: u32) -
 
 // Closes a route's file with a reason into the output. The store stays.
 pub fn close(
-    mut m: Manager,
+    m: Manager,
     store: &mut [u8],
     output: &mut [u8],
     time: u32,
@@ -77,16 +77,5 @@ pub fn close(
     close_file(m, r, i, reason as u8, &store[..], output, 0);
     let closed = closed_route(r);
     let t = state::effective_time(m, time);
-    m.routes[i] = closed;
-    m.last = t;
-    Outcome {
-        answer: Answer {
-            refusal: 0,
-            outcome: 5,
-            route: route as u8,
-            files: 1,
-            octets: size,
-        },
-        manager: m,
-    }
+    changed(m, t, i, closed, 5, 1, size)
 }

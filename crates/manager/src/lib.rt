@@ -5,6 +5,7 @@ mod opening;
 mod routes;
 mod ticking;
 
+pub use checks::changed;
 pub use checks::common_refusal;
 pub use checks::either;
 pub use checks::refuse;

@@ -2,8 +2,8 @@
 ghost use mathlib.Core.Path.{_≡_};
 ghost use Rattle.refusals.specs.Refusal.{first};
 ghost use Rattle.manager.specs.Events.{openRules, openOf, after};
-use crate::Answer;
 use crate::Outcome;
+use crate::checks::changed;
 use crate::checks::either;
 use crate::checks::refuse;
 use crate::checks::route_refusal;
@@ -23,7 +23,7 @@ fn open_refusal(m: Manager, store: usize, time: u32, route: u32) -> u8
 }
 
 // Opens an empty file on a route. Store and output stay.
-pub fn open(mut m: Manager, store: &mut [u8], output: &mut [u8], time: u32, route: u32) -> Outcome
+pub fn open(m: Manager, store: &mut [u8], output: &mut [u8], time: u32, route: u32) -> Outcome
     ensures { λ r. ⌜ after r (now (store .exit)) (now (output .exit)) ≡ openOf m (now (store .entry)) (now (output .entry)) time route ⌝ }
 {
     let number = open_refusal(m, store.len(), time, route);
@@ -34,16 +34,5 @@ pub fn open(mut m: Manager, store: &mut [u8], output: &mut [u8], time: u32, rout
     let r = m.routes[i];
     let t = state::effective_time(m, time);
     let opened = opened_route(r, t);
-    m.routes[i] = opened;
-    m.last = t;
-    Outcome {
-        answer: Answer {
-            refusal: 0,
-            outcome: 1,
-            route: route as u8,
-            files: 0,
-            octets: 0,
-        },
-        manager: m,
-    }
+    changed(m, t, i, opened, 1, 0, 0)
 }

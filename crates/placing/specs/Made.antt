@@ -1,5 +1,5 @@
 -- What placing a record puts together (document 01, The events): what the steps need of state, store and output, and that the
--- answer, the state, the store and the output that they leave are those of the definition. Assumes nothing.
+-- route, the store and the output that they leave are those of the definition. Assumes nothing.
 use mathlib.Core.Path.{_≡_, refl, sym, ap, subst, _∙_}
 use mathlib.Core.Bool.{Bool, true, false, cond}
 use mathlib.Core.List.{List, [], _++_}
@@ -15,7 +15,7 @@ use Rattle.record.specs.Order.{in-width}
 use Rattle.state.specs.declared.RouteSettings.{RouteSettings}
 use Rattle.state.specs.declared.Route.{Route}
 use Rattle.state.specs.declared.Manager.{Manager}
-use Rattle.state.specs.Manager.{routeAt, base, withRoute, withTime}
+use Rattle.state.specs.Manager.{routeAt, base}
 use Rattle.state.specs.Loss.{indicator}
 use Rattle.state.specs.Within.{SettingsWithin, RouteWithin, within}
 use Rattle.state.specs.Regions.{region-within, regions-all}
@@ -23,20 +23,40 @@ use Rattle.filing.specs.Closing.{closedSize}
 use Rattle.filing.specs.Closed.{closed-from}
 use Rattle.filing.specs.Needs.{Appendable, Closable}
 use Rattle.manager.specs.declared.Arrival.{Arrival}
-use Rattle.manager.specs.declared.Outcome.{Outcome}
 use Rattle.manager.specs.Rules.{headerFor, recordSize, appendedRoute}
-use Rattle.manager.specs.Events.{After, after, refused, answered}
-use Rattle.manager.specs.Receive.{turns, ready, placedSize, placedAt, storeWith, turnedFile, filledFile}
+use Rattle.manager.specs.Receive.{turns, ready, finished, placedSize, placedFiles, storeWith, turnedFile, filledFile}
 use Rattle.placing.specs.declared.Plan.{Plan}
+use Rattle.placing.specs.declared.Placed.{Placed}
 use Rattle.placing.specs.Plan.{planned, finishedBy, Placeable, suitable, Roomy, ready-roomy}
 use Rattle.placing.specs.Files.{closedIf, sizeIf, length-if, closed-behind}
 
--- a record that is placed, or 17 where the files that it closes are longer than the output
-abbrev pub placedOr : Manager → List ℕ → List ℕ → ℕ → Arrival → List ℕ → ℕ → After
-placedOr m store output t a body i =
+-- what placing a record leaves
+pub record Left : Type 0 where
+  pub placed : Placed
+  pub store : List ℕ
+  pub output : List ℕ
+
+abbrev pub left : Placed → List ℕ → List ℕ → Left
+left p store output = record { placed = p; store = store; output = output }
+
+-- nothing is done where the files that would close are longer than the output
+abbrev pub tooLong : Route → ℕ → Placed
+tooLong r octets = record { fits = false; route = r; files = 0; octets = octets }
+
+-- else the record is in the store, and the files that it closes are in the output
+abbrev pub placeOf : Manager → List ℕ → List ℕ → ℕ → Arrival → List ℕ → ℕ → Left
+placeOf m store output t a body i =
     cond (ltb (length output) (placedSize (routeAt m i) a (length body) t))
-    (after (refused 17 (placedSize (routeAt m i) a (length body) t) m) store output)
-    (placedAt m store output t a body i)
+    (left (tooLong (routeAt m i) (placedSize (routeAt m i) a (length body) t)) store output)
+    (left
+    (record {
+      fits = true;
+      route = finished (routeAt m i) a (length body) t;
+      files = placedFiles (routeAt m i) a (length body) t;
+      octets = placedSize (routeAt m i) a (length body) t;
+    })
+    (storeWith m store i a body t)
+    (splice output 0 (turnedFile m store i a (length body) ++ filledFile m store i a body t)))
 
 -- what the steps of a plan need: the record fits its region, and each file that closes fits the output, the second behind the first
 pub record Carried (m : Manager) (store output : List ℕ) (r : Route) (p : Plan) (h : RecordHeader) (body : List ℕ) (i : ℕ) : Type 0 where
@@ -85,13 +105,9 @@ module _ (m : Manager) (store output : List ℕ) (r : Route) (p : Plan) (h : Rec
         f₂ ∙ splice-then output 0 one (omega arith) two at (omega arith),
       )
 
--- what a plan leaves of the state, with the answer
-abbrev pub placedOutcome : Manager → ℕ → ℕ → Plan → ℕ → Outcome
-placedOutcome m t i p octets =
-    record {
-      answer = answered 2 i (cond (p .turns) 1 0 + cond (p .fills) 1 0) octets;
-      manager = withTime (withRoute m i (finishedBy p)) t;
-    }
+-- what a plan leaves of its route, with the number and the octets of the files that it closes
+abbrev pub placedBy : Plan → ℕ → Placed
+placedBy p octets = record { fits = true; route = finishedBy p; files = cond (p .turns) 1 0 + cond (p .fills) 1 0; octets = octets }
 
 -- what the plan says of the octets that are needed
 pub needed-made : (r : Route) (a : Arrival) (body t : ℕ) {p : Plan} {before behind : ℕ} → p ≡ planned r a body t → before ≡ sizeIf (p .turns) r
@@ -163,13 +179,13 @@ module _ (m : Manager) (store output : List ℕ) (t : ℕ) (a : Arrival) (body :
   abbrev p : Plan
   p = planned r a (length body) t
 
-  -- refused by 17
-  pub place-refused : {o : Outcome} {octets : ℕ} → o ≡ refused 17 octets m → octets ≡ placedSize r a (length body) t → length output < octets
-      → after o store output ≡ placedOr m store output t a body i
-  place-refused {o} {octets} eo en less =
+  -- the files are too long
+  pub place-refused : {octets : ℕ} → octets ≡ placedSize r a (length body) t → length output < octets
+      → left (tooLong r octets) store output ≡ placeOf m store output t a body i
+  place-refused {octets} en less =
       let k : length output < placedSize r a (length body) t = omega arith in
       let b : ltb (length output) (placedSize r a (length body) t) ≡ true = lt-ltb _ _ k in
-      ap (λ (x : Outcome). after x store output) (eo ∙ ap (λ (n : ℕ). refused 17 n m) en) ∙ sym (rw b)
+      ap (λ (n : ℕ). left (tooLong r n) store output) en ∙ sym (rw b)
 
   module _ (l : Placeable m (length store) t a (length body) i) where
     region : base m i + r .settings .limit ≤ length store
@@ -206,13 +222,13 @@ module _ (m : Manager) (store output : List ℕ) (t : ℕ) (a : Arrival) (body :
         (subst (λ (g : RecordHeader). Carried m store output r p g body i) (sym eh) c)
 
     -- and what it leaves is what the definition says
-    pub place-made : i < length (m .routes) → {p′ : Plan} {h : RecordHeader} {o : Outcome} {octets : ℕ} {store′ output′ : List ℕ}
+    pub place-made : i < length (m .routes) → {p′ : Plan} {h : RecordHeader} {q : Placed} {octets : ℕ} {store′ output′ : List ℕ}
         → p′ ≡ p → h ≡ headerFor a → octets ≡ placedSize r a (length body) t → octets ≤ length output
         → store′ ≡ splice store (base m i + p′ .used) (recordOctets (record { header = h; body = body }))
         → output′ ≡ splice output 0 (closedIf (p′ .turns) m r (p′ .reason) store (base m i) ++ closedIf (p′ .fills) m (p′ .holding) 3 store′ (base m i))
-        → o ≡ placedOutcome m t i p′ octets
-        → after o store′ output′ ≡ placedOr m store output t a body i
-    place-made there {p′} {h} {o} {octets} {store′} {output′} ep eh en fits es eo ea =
+        → q ≡ placedBy p′ octets
+        → left q store′ output′ ≡ placeOf m store output t a body i
+    place-made there {p′} {h} {q} {octets} {store′} {output′} ep eh en fits es eo ea =
         let k : placedSize r a (length body) t ≤ length output = omega arith in
         let b : ltb (length output) (placedSize r a (length body) t) ≡ false = le-ltb _ _ k in
         let s : store′ ≡ storeWith m store i a body t = es ∙ (λ j. splice store (base m i + ep j .used) (recordOctets (record { header = eh j; body = body }))) in
@@ -223,5 +239,5 @@ module _ (m : Manager) (store output : List ℕ) (t : ℕ) (a : Arrival) (body :
         (λ j. closedIf (ep j .fills) m (ep j .holding) 3 (s j) (base m i))
         ∙ ap (λ (x : List ℕ). cond (p .fills) x []) (closed-behind m (p .holding) (storeWith m store i a body t) i 3 there (roomy .settings)) in
         let out : output′ ≡ splice output 0 (turnedFile m store i a (length body) ++ filledFile m store i a body t) = eo ∙ (λ j. splice output 0 (one j ++ two j)) in
-        let answer : o ≡ placedOutcome m t i p (placedSize r a (length body) t) = ea ∙ (λ j. placedOutcome m t i (ep j) (en j)) in
-        (λ j. after (answer j) (s j) (out j)) ∙ sym (rw b)
+        let answer : q ≡ placedBy p (placedSize r a (length body) t) = ea ∙ (λ j. placedBy (ep j) (en j)) in
+        (λ j. left (answer j) (s j) (out j)) ∙ sym (rw b)

@@ -3,18 +3,14 @@ mod carrying;
 mod file;
 mod planning;
 
-use manager::Answer;
 use manager::Arrival;
-use manager::Outcome;
 pub use planning::header_for;
 use state::Manager;
 use state::Route;
 ghost use mathlib.Core.Path.{_≡_};
-ghost use Prim.Native.Nat.{_<_};
 ghost use lib.ListN.{length};
-ghost use Rattle.manager.specs.Events.{after};
 ghost use Rattle.placing.specs.Plan.{Placeable};
-ghost use Rattle.placing.specs.Made.{placedOr, placedOutcome};
+ghost use Rattle.placing.specs.Made.{left, placeOf, placedBy};
 
 // What a placed record does to its route: whether it closes the open file first, and with which reason; how many octets of
 // records stand before it in the file that takes it; the route with it in that file; and whether this fills the file.
@@ -26,29 +22,31 @@ struct Plan {
     fills: bool,
 }
 
-// What a placed record leaves of the state, with the answer.
-fn outcome_of(mut m: Manager, t: u32, i: usize, p: Plan, octets: usize) -> Outcome
-    requires { ⌜ i < 8 ⌝ }
-    ensures { λ r. ⌜ r ≡ placedOutcome m t i p octets ⌝ }
+// What placing a record leaves of its route, and the number and the octets of the files that it closes; or that they do not fit
+// the output, with the octets that they need.
+pub struct Placed {
+    pub fits: bool,
+    pub route: Route,
+    pub files: u8,
+    pub octets: usize,
+}
+
+// What the plan leaves, with the octets of the files that it closes.
+fn placed_by(p: Plan, octets: usize) -> Placed
+    ensures { λ r. ⌜ r ≡ placedBy p octets ⌝ }
 {
     let before = manager::either(p.turns, 1, 0);
     let behind = manager::either(p.fills, 1, 0);
-    let c = planning::finished(p);
-    m.routes[i] = c;
-    m.last = t;
-    Outcome {
-        answer: Answer {
-            refusal: 0,
-            outcome: 2,
-            route: i as u8,
-            files: before + behind,
-            octets: octets,
-        },
-        manager: m,
+    let route = planning::finished(p);
+    Placed {
+        fits: true,
+        route: route,
+        files: before + behind,
+        octets: octets,
     }
 }
 
-// A placed record, or 17 where the output is shorter than the files that it closes.
+// Places a record on the route i: nothing is done where the files that it closes are longer than the output.
 pub fn place(
     m: Manager,
     store: &mut [u8],
@@ -57,9 +55,9 @@ pub fn place(
     a: Arrival,
     body: &[u8],
     i: usize,
-) -> Outcome
+) -> Placed
     requires { ⌜ Placeable m (length (now store)) t a (length (now body)) i ⌝ }
-    ensures { λ r. ⌜ after r (now (store .exit)) (now (output .exit)) ≡ placedOr m (now (store .entry)) (now (output .entry)) t a (now (body .entry)) i ⌝ }
+    ensures { λ r. ⌜ left r (now (store .exit)) (now (output .exit)) ≡ placeOf m (now (store .entry)) (now (output .entry)) t a (now (body .entry)) i ⌝ }
 {
     let r = m.routes[i];
     let p = planning::plan_for(r, a, body.len(), t);
@@ -67,9 +65,14 @@ pub fn place(
     let behind = carrying::size_if(p.fills, p.holding);
     let octets = before + behind;
     if output.len() < octets {
-        return manager::refuse(m, 17, octets);
+        return Placed {
+            fits: false,
+            route: r,
+            files: 0,
+            octets: octets,
+        };
     }
     let h = planning::header_for(a);
     carrying::carry_out(m, store, output, r, p, h, body, i);
-    outcome_of(m, t, i, p, octets)
+    placed_by(p, octets)
 }

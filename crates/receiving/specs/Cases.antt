@@ -18,10 +18,10 @@ use Rattle.state.specs.Bounds.{stateRight}
 use Rattle.manager.specs.declared.Arrival.{Arrival}
 use Rattle.manager.specs.declared.Outcome.{Outcome}
 use Rattle.manager.specs.Rules.{wrongFields, routedTo}
-use Rattle.manager.specs.Events.{After, after, refused, settled, common}
+use Rattle.manager.specs.Events.{After, after, changed, refused, settled, common}
 use Rattle.manager.specs.Receive.{isLost, needed, countersFull, taken, placedSize, unrouted, lostAt, placedAt, receiveOf}
 use Rattle.placing.specs.Plan.{Usable}
-use Rattle.placing.specs.Made.{placedOr}
+use Rattle.placing.specs.Made.{Left, placeOf}
 
 -- with mark 1 the fields of a record are not judged
 abbrev pub UsableUnlessMarked : Arrival → Type 0
@@ -63,13 +63,36 @@ routed m a key r f =
 pub unmarked : (m : Manager) (a : Arrival) (i body : ℕ) → isLost m a i body ≡ false → a .mark ≡ 1 → ⊥
 unmarked m a i body e z = let f : true ≡ false = rw (eq-eqb _ _ z) at e in true≢false f
 
--- two of the outcomes, each with its own refusal: 19 for a counter that would rise
+-- the three outcomes, each with its own refusal: 19 for a counter that would rise, 17 for the files that close
 abbrev pub unroutedOr : Manager → ℕ → Outcome
 unroutedOr m t =
     cond (eqb (m .unrouted) 4294967295) (refused 19 0 m) (unrouted m [] [] t .outcome)
 
 abbrev pub lostOr : Manager → ℕ → ℕ → Outcome
 lostOr m t i = cond (eqb (routeAt m i .losses) 4294967295) (refused 19 0 m) (lostAt m [] [] t i .outcome)
+
+abbrev placedOr : Manager → List ℕ → List ℕ → ℕ → Arrival → List ℕ → ℕ → After
+placedOr m store output t a body i =
+    cond (ltb (length output) (placedSize (routeAt m i) a (length body) t))
+    (after (refused 17 (placedSize (routeAt m i) a (length body) t) m) store output)
+    (placedAt m store output t a body i)
+
+-- what is told of a placing
+abbrev pub toldOf : Manager → ℕ → ℕ → Left → After
+toldOf m t i p =
+    after
+    (cond (p .placed .fits) (changed m t i (p .placed .route) 2 (p .placed .files) (p .placed .octets)) (refused 17 (p .placed .octets) m))
+    (p .store)
+    (p .output)
+
+told-placed : (m : Manager) (store output : List ℕ) (t : ℕ) (a : Arrival) (body : List ℕ) (i : ℕ)
+    → toldOf m t i (placeOf m store output t a body i) ≡ placedOr m store output t a body i
+told-placed m store output t a body i = go (ltb (length output) (placedSize (routeAt m i) a (length body) t)) refl
+  where
+    go : (b : Bool) → ltb (length output) (placedSize (routeAt m i) a (length body) t) ≡ b
+        → toldOf m t i (placeOf m store output t a body i) ≡ placedOr m store output t a body i
+    go true e = rw e
+    go false e = rw e
 
 -- The shape of the definition, over its conditions: first 18, 16 and 4.
 module _ (b18 b16 b4 : Bool) where
@@ -219,6 +242,19 @@ module _ (m : Manager) (store output : List ℕ) (time : ℕ) (a : Arrival) (key
         receive-lost e =
             found-lost (size to) m store output (lose to) (put to) pass u (l to) (lostAt m [] [] (effective m time) (to .at) .outcome) refl f e ∙ left-of r
 
-        pub receive-placed : isLost m a (to .at) (length body) ≡ false
-            → placedOr m store output (effective m time) a body (to .at) ≡ receiveOf m store output time a key body
-        receive-placed e = found-placed (size to) m store output (lose to) (put to) pass u (l to) f e ∙ left-of r
+        module _ (e : isLost m a (to .at) (length body) ≡ false) {t : ℕ} (et : t ≡ effective m time) {q : Left} (eq : q ≡ placeOf m store output t a body (to .at)) where
+          told-receive : toldOf m t (to .at) q ≡ receiveOf m store output time a key body
+          told-receive =
+              ap (toldOf m t (to .at)) eq
+              ∙ (λ i. toldOf m (et i) (to .at) (placeOf m store output (et i) a body (to .at)))
+              ∙ told-placed m store output (effective m time) a body (to .at)
+              ∙ found-placed (size to) m store output (lose to) (put to) pass u (l to) f e
+              ∙ left-of r
+
+          pub receive-short : q .placed .fits ≡ false → {o : Outcome} → o ≡ refused 17 (q .placed .octets) m
+              → after o (q .store) (q .output) ≡ receiveOf m store output time a key body
+          receive-short b eo = ap (λ (x : Outcome). after x (q .store) (q .output)) (eo ∙ sym (rw b)) ∙ told-receive
+
+          pub receive-placed : q .placed .fits ≡ true → {o : Outcome} → o ≡ changed m t (to .at) (q .placed .route) 2 (q .placed .files) (q .placed .octets)
+              → after o (q .store) (q .output) ≡ receiveOf m store output time a key body
+          receive-placed b eo = ap (λ (x : Outcome). after x (q .store) (q .output)) (eo ∙ sym (rw b)) ∙ told-receive

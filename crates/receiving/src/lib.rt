@@ -70,5 +70,9 @@ pub fn receive(
     if pass::is_lost(r.settings, a, body.len()) {
         return pass::lost(m, t, i);
     }
-    placing::place(m, store, output, t, a, body, i)
+    let p = placing::place(m, store, output, t, a, body, i);
+    if !p.fits {
+        return manager::refuse(m, 17, p.octets);
+    }
+    manager::changed(m, t, i, p.route, 2, p.files, p.octets)
 }

@@ -81,7 +81,7 @@ fn lost_route(mut r: Route) -> Route
 }
 
 // A lost record: one more known loss of its route, or 19 where that counter would rise past 32 bits.
-pub fn lost(mut m: Manager, t: u32, i: usize) -> Outcome
+pub fn lost(m: Manager, t: u32, i: usize) -> Outcome
     requires { ⌜ i < 8 ⌝ }
     ensures { λ r. ⌜ r ≡ lostOr m t i ⌝ }
 {
@@ -90,16 +90,5 @@ pub fn lost(mut m: Manager, t: u32, i: usize) -> Outcome
         return manager::refuse(m, 19, 0);
     }
     let c = lost_route(r);
-    m.routes[i] = c;
-    m.last = t;
-    Outcome {
-        answer: Answer {
-            refusal: 0,
-            outcome: 3,
-            route: i as u8,
-            files: 0,
-            octets: 0,
-        },
-        manager: m,
-    }
+    manager::changed(m, t, i, c, 3, 0, 0)
 }

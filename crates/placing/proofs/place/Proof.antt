@@ -44,14 +44,11 @@ size-if-requires-2 c κs = search needs
 add-octets : tie.Need-add-octets
 add-octets c = search needs
 
-refuse-requires : tie.Need-refuse-requires
-refuse-requires c κs = search needs
-
 returns : tie.Need-returns
 returns c =
-    let n = c .before .before in
+    let n = c .before in
     let a = start n .args in
-    place-refused (a .t1) (a .store .now) (a .output .now) (a .t) (a .a) (a .body .now) (a .i) (c .refuse .ensures) (needed n) (c .before .if1 .taken)
+    place-refused (a .t1) (a .store .now) (a .output .now) (a .t) (a .a) (a .body .now) (a .i) (needed n) (c .if1 .taken)
 
 header-for-requires : tie.Need-header-for-requires
 header-for-requires c κs = search needs
@@ -64,8 +61,8 @@ carry-out-requires c κs =
     carried (a .t1) (a .store .now) (a .output .now) (a .t) (a .a) (a .body .now) (a .i) (s .pre) (omega (arith, needed n, c .before .before .before .if1 .left))
     (n .before .before .plan-for .ensures) (c .before .before .header-for .ensures)
 
-outcome-of-requires : tie.Need-outcome-of-requires
-outcome-of-requires c κs = there (c .before .before .before .before .before .before .before .before .before .before .before .before .before .before .before .before)
+placed-by-requires : tie.Need-placed-by-requires
+placed-by-requires c κs = search needs
 
 same-length : tie.Need-same-length
 same-length c = search needs
@@ -83,7 +80,7 @@ returns-2 c =
     let eight : length (a .t1 .routes) ≡ 8 = sym (length-map (a .t1 .routes) _) ∙ s .good .0 .1 .1 .0 .1 .0 .1 in
     place-made (a .t1) (a .store .now) (a .output .now) (a .t) (a .a) (a .body .now) (a .i) (s .pre) (omega (arith, there s))
     (n .before .before .plan-for .ensures) (h .header-for .ensures) (needed n) (omega (arith, h .before .if1 .left)) (d .carry-out .ensures .0)
-    (d .carry-out .ensures .1) (c .outcome-of .ensures)
+    (d .carry-out .ensures .1) (c .placed-by .ensures)
 
 pub place-spec : {M : Type 1} → statement M
 place-spec =
@@ -95,11 +92,10 @@ place-spec =
     size-if-requires
     size-if-requires-2
     add-octets
-    refuse-requires
     returns
     header-for-requires
     carry-out-requires
-    outcome-of-requires
+    placed-by-requires
     same-length
     same-length-2
     returns-2)

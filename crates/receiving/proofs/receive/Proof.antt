@@ -15,9 +15,8 @@ use Rattle.manager.specs.declared.Outcome.{Outcome}
 use Rattle.manager.specs.Rules.{wrongFields}
 use Rattle.manager.specs.Events.{after, common}
 use Rattle.manager.specs.Receive.{isLost}
-use Rattle.receiving.specs.Cases.{usable, routed, unmarked, unroutedOr, lostOr, receive-common, state-right, long-store, right-time, receive-wrong, receive-unrouted, receive-lost, receive-placed}
+use Rattle.receiving.specs.Cases.{usable, routed, unmarked, unroutedOr, lostOr, receive-common, state-right, long-store, right-time, receive-wrong, receive-unrouted, receive-lost, receive-short, receive-placed}
 use Rattle.placing.specs.Plan.{Placeable}
-use Rattle.placing.specs.Made.{placedOr}
 use Rattle.receiving.proofs.receive.Statement.{statement}
 use Rattle.receiving.proofs.receive.Tie as tie
 
@@ -163,6 +162,9 @@ returns-4 c =
 place-requires : tie.Need-place-requires
 place-requires c κs = placeable (c .before .before)
 
+refuse-requires-3 : tie.Need-refuse-requires-3
+refuse-requires-3 c κs = search needs
+
 same-length : tie.Need-same-length
 same-length c = search needs
 
@@ -171,16 +173,36 @@ same-length-2 c = search needs
 
 returns-5 : tie.Need-returns-5
 returns-5 c =
-    let p = c .before .before .before .before in
+    let p = c .before .before .before .before .before .before .before in
     let f = p .before .before .before in
     let r = routing f in
     let to = r .before .before in
     let e = behind5 r in
     let a = start r .args in
-    p .place .ensures
-    ∙ ap (λ (t : ℕ). placedOr (a .t1) (a .store .now) (a .output .now) t (a .a) (a .body .now) (at r)) (to .before .effective-time .ensures)
-    ∙ receive-placed (a .t1) (a .store .now) (a .output .now) (a .time) (a .a) (a .key .now) (a .body .now) (passed (behind4 e)) (passed5 e)
-    (to .routed-to .ensures) (found r) (placed f)
+    receive-short (a .t1) (a .store .now) (a .output .now) (a .time) (a .a) (a .key .now) (a .body .now) (passed (behind4 e)) (passed5 e)
+    (to .routed-to .ensures) (found r) (placed f) (to .before .effective-time .ensures) (p .place .ensures) (not-true _ (c .before .if5 .taken)) (c .refuse3 .ensures)
+
+changed-requires : tie.Need-changed-requires
+changed-requires c κs =
+    let p = c .before .before .before .before .before .before in
+    few (routing (p .before .before .before))
+
+same-length-3 : tie.Need-same-length-3
+same-length-3 c = search needs
+
+same-length-4 : tie.Need-same-length-4
+same-length-4 c = search needs
+
+returns-6 : tie.Need-returns-6
+returns-6 c =
+    let p = c .before .before .before .before .before .before .before in
+    let f = p .before .before .before in
+    let r = routing f in
+    let to = r .before .before in
+    let e = behind5 r in
+    let a = start r .args in
+    receive-placed (a .t1) (a .store .now) (a .output .now) (a .time) (a .a) (a .key .now) (a .body .now) (passed (behind4 e)) (passed5 e)
+    (to .routed-to .ensures) (found r) (placed f) (to .before .effective-time .ensures) (p .place .ensures) (not-false _ (c .before .if5 .left)) (c .changed .ensures)
 
 pub receive-spec : {M : Type 1} → statement M
 receive-spec =
@@ -203,6 +225,11 @@ receive-spec =
     lost-requires
     returns-4
     place-requires
+    refuse-requires-3
     same-length
     same-length-2
-    returns-5)
+    returns-5
+    changed-requires
+    same-length-3
+    same-length-4
+    returns-6)

@@ -86,14 +86,8 @@ closed-route-requires c κs = search needs
 effective-time-requires : tie.Need-effective-time-requires
 effective-time-requires c κs = search needs
 
-mul-closed : tie.Need-mul-closed
-mul-closed c = omega (arith, there (behind (c .before .before .before .before .before .before .before)))
-
-element-set-from-closed : tie.Need-element-set-from-closed
-element-set-from-closed c = there (behind (c .before .before .before .before .before .before .before))
-
-cast-t23 : tie.Need-cast-t23
-cast-t23 c = omega (arith, there (behind (c .before .before .before .before .before .before .before)))
+changed-requires : tie.Need-changed-requires
+changed-requires c κs = there (behind (c .before .before .before .before .before .before .before))
 
 same-length : tie.Need-same-length
 same-length c = search needs
@@ -103,12 +97,13 @@ same-length-2 c = search needs
 
 returns-3 : tie.Need-returns-3
 returns-3 c =
-    let f = c .before .before .before .before .before .before .before in
+    let d = c .before in
+    let f = d .before .before .before .before .before .before .before in
     let e = behind f in
     let a = entry e .args in
     let n = f .before .closed-size .ensures in
-    closed-made (a .t1) (a .store .now) (a .output .now) (a .time) (a .route) (a .reason) (c .effective-time .ensures) n (c .before .closed-route .ensures)
-    (c .before .before .before .before .close-file .ensures .written)
+    closed-made (a .t1) (a .store .now) (a .output .now) (a .time) (a .route) (a .reason) (d .effective-time .ensures) n (d .before .closed-route .ensures)
+    (d .before .before .before .before .close-file .ensures .written) (c .changed .ensures)
     ∙ close-done (a .t1) (a .store .now) (a .output .now) (a .time) (a .route) (a .reason) (passes e) (omega (arith, n, f .if2 .left))
 
 pub close-spec : {M : Type 1} → statement M
@@ -127,9 +122,7 @@ close-spec =
     close-file-requires
     closed-route-requires
     effective-time-requires
-    mul-closed
-    element-set-from-closed
-    cast-t23
+    changed-requires
     same-length
     same-length-2
     returns-3)

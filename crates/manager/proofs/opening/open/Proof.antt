@@ -2,7 +2,6 @@
 -- put together is the definition's. Assumes nothing.
 use mathlib.Core.Path.{_≡_, sym, ap, _∙_}
 use Prim.Native.Nat.{_<_}
-use native.Mathlib.Omega.{arith}
 use lib.ListN.{length}
 use borrow.Author.Needs.{needs}
 use Rattle.refusals.specs.Refusal.{first}
@@ -49,20 +48,15 @@ effective-time-requires c κs = search needs
 opened-route-requires : tie.Need-opened-route-requires
 opened-route-requires c κs = search needs
 
-mul-opened : tie.Need-mul-opened
-mul-opened c = search needs
-
-element-set-from-opened : tie.Need-element-set-from-opened
-element-set-from-opened c = there (c .before .before .before)
-
-cast-t21 : tie.Need-cast-t21
-cast-t21 c = omega (arith, there (c .before .before .before))
+changed-requires : tie.Need-changed-requires
+changed-requires c κs = there (c .before .before .before)
 
 returns-2 : tie.Need-returns-2
 returns-2 c =
-    let e = c .before .before .before in
+    let e = c .before .before .before .before in
     let a = entry e .args in
-    opened-made (a .t1) (a .store .now) (a .output .now) (a .time) (a .route) (c .before .effective-time .ensures) (c .opened-route .ensures)
+    opened-made (a .t1) (a .store .now) (a .output .now) (a .time) (a .route) (c .before .before .effective-time .ensures)
+    (c .before .opened-route .ensures) (c .changed .ensures)
     ∙ open-done (a .t1) (a .store .now) (a .output .now) (a .time) (a .route) (passes e)
 
 pub open-spec : {M : Type 1} → statement M
@@ -76,7 +70,5 @@ open-spec =
     element-copy-out-r
     effective-time-requires
     opened-route-requires
-    mul-opened
-    element-set-from-opened
-    cast-t21
+    changed-requires
     returns-2)

@@ -20,17 +20,11 @@ returns c = c .refuse .ensures ∙ sym (rw (eq-eqb _ _ (c .before .if1 .taken)))
 lost-route-requires : tie.Need-lost-route-requires
 lost-route-requires c κs = search needs
 
-mul-c : tie.Need-mul-c
-mul-c c = search needs
-
-element-set-from-c : tie.Need-element-set-from-c
-element-set-from-c c = search needs
-
-cast-t15 : tie.Need-cast-t15
-cast-t15 c = search needs
+changed-requires : tie.Need-changed-requires
+changed-requires c κs = search needs
 
 returns-2 : tie.Need-returns-2
-returns-2 c = rw (ne-eqb _ _ (c .before .if1 .left)) (cc)
+returns-2 c = rw (ne-eqb _ _ (c .before .before .if1 .left)) (cc)
 
 pub lost-spec : {M : Type 1} → statement M
 lost-spec =
@@ -41,7 +35,5 @@ lost-spec =
     refuse-requires
     returns
     lost-route-requires
-    mul-c
-    element-set-from-c
-    cast-t15
+    changed-requires
     returns-2)
