@@ -42,6 +42,9 @@ pub first-before : (rs qs : List Rule) → (first rs ≡ 0 → ⊥) → first (r
 first-before [] qs h = absurd (h refl)
 first-before (r ∷ rs) qs h = before-step (r .applies) (r .number) (first rs) (first (rs ++ qs)) (first-before rs qs) h
 
+pub refused-before : (rs qs : List Rule) {n : ℕ} → n ≡ first rs → (n ≡ 0 → ⊥) → n ≡ first (rs ++ qs)
+refused-before rs qs e h = e ∙ sym (first-before rs qs (λ z. h (e ∙ z)))
+
 -- where none of the first part applies, the second decides
 behind-step : (b : Bool) (x a c d : ℕ) → (x ≡ 0 → ⊥) → (a ≡ 0 → c ≡ d) → cond b x a ≡ 0 → cond b x c ≡ d
 behind-step true x a c d n ih e = absurd (n e)
@@ -111,30 +114,15 @@ common-passed m octets time rs e =
     let w = within m (not-false (stateRight m) (p18 .0)) in
     (record { state = w; store = rw (regions-all m (w .few)) at (ltb-false octets (regions m) (p16 .0)); early = ltb-false 52595999 time (p4 .0) }, p4 .1)
 
--- the rules behind them decide where they do not apply
-module _ (m : Manager) (octets time : ℕ) (rs : List Rule) where
-  pub common-refused : {n : ℕ} → n ≡ first (common m octets time []) → (n ≡ 0 → ⊥) → n ≡ first (common m octets time rs)
-  common-refused e h = e ∙ sym (first-before (common m octets time []) rs (λ z. h (e ∙ z)))
-
-  pub common-behind : first (common m octets time []) ≡ 0 → first (common m octets time rs) ≡ first rs
-  common-behind e = first-behind (common m octets time []) rs refl e
-
 -- OPEN and CLOSE test 6 behind them, before they look at the route
 abbrev pub routeFirst : Manager → ℕ → ℕ → ℕ → List Rule
 routeFirst m octets time route = common m octets time ((6 when leb (m .count) route) ∷ [])
 
-module _ (m : Manager) (octets time route : ℕ) where
-  pub route-refused : (rs : List Rule) {n : ℕ} → n ≡ first (routeFirst m octets time route) → (n ≡ 0 → ⊥) → n ≡ first (routeFirst m octets time route ++ rs)
-  route-refused rs e h = e ∙ sym (first-before (routeFirst m octets time route) rs (λ z. h (e ∙ z)))
-
-  module _ (e : first (routeFirst m octets time route) ≡ 0) where
-    pub route-behind : (rs : List Rule) → first (routeFirst m octets time route ++ rs) ≡ first rs
-    route-behind rs = first-behind (routeFirst m octets time route) rs refl e
-
-    pub route-there : route < 8
-    route-there =
-        let p = common-passed m octets time ((6 when leb (m .count) route) ∷ []) e in
-        omega (arith, p .0 .state .few, leb-false (m .count) route (passed 5 (leb (m .count) route) [] (p .1) .0))
+-- where none applies, the route is there
+pub route-there : (m : Manager) (octets time route : ℕ) → first (routeFirst m octets time route) ≡ 0 → route < 8
+route-there m octets time route e =
+    let p = common-passed m octets time ((6 when leb (m .count) route) ∷ []) e in
+    omega (arith, p .0 .state .few, leb-false (m .count) route (passed 5 (leb (m .count) route) [] (p .1) .0))
 
 -- OPEN
 module _ (m : Manager) (store output : List ℕ) (time route : ℕ) where

@@ -17,9 +17,8 @@ use Rattle.record.specs.declared.Release.{Release}
 use Rattle.record.specs.Release.{narrowRelease, NarrowRelease, rank}
 use Rattle.record.specs.Record.{Record, AllRight, highest, lowest}
 
--- The test of a release's widths says what the fact says. An octet's extension is below 256 anyway.
-
--- without the extension, which the machine bounds
+-- What the test of a release's widths says: of the two fields that share an octet, and of all three. An extension is an octet,
+-- so that its own bound comes from the machine.
 pub record InWidth (r : Release) : Type 0 where
   pub release : r .release < 8
   pub version : r .version < 32

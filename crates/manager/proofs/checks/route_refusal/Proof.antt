@@ -1,12 +1,17 @@
 -- `manager::checks::route_refusal` meets its contract: where 18, 16 and 4 do not apply, 6 decides. Assumes nothing.
-use mathlib.Core.Path.{sym, _∙_}
+use mathlib.Core.Path.{refl, sym, _∙_}
 use mathlib.Core.List.{List, [], _∷_}
 use lib.Dec.{leb}
 use borrow.Author.Needs.{needs}
 use Rattle.refusals.specs.Refusal.{Rule, _when_}
-use Rattle.manager.specs.Cases.{common-refused, common-behind}
+use Rattle.manager.specs.Events.{common}
+use Rattle.manager.specs.Cases.{refused-before, first-behind}
 use Rattle.manager.proofs.checks.route_refusal.Statement.{statement}
 use Rattle.manager.proofs.checks.route_refusal.Tie as tie
+
+-- 18, 16 and 4, and 6 behind them
+abbrev tested : tie.Start → List Rule
+tested s = common (s .args .m) (s .args .store) (s .args .time) []
 
 abbrev six : tie.Start → List Rule
 six s = (6 when leb (s .args .m .count) (s .args .route)) ∷ []
@@ -16,8 +21,8 @@ common-refusal-requires c κs = search needs
 
 returns : tie.Need-returns
 returns c =
-    let a = c .before .before .args in
-    common-refused (a .m) (a .store) (a .time) (six (c .before .before)) (c .before .common-refusal .ensures) (c .if1 .taken)
+    let s = c .before .before in
+    refused-before (tested s) (six s) (c .before .common-refusal .ensures) (c .if1 .taken)
 
 cast-either : tie.Need-cast-either
 cast-either c = search needs
@@ -29,9 +34,7 @@ returns-2 : tie.Need-returns-2
 returns-2 c =
     let e = c .before .before in
     let s = e .before .before in
-    let a = s .args in
-    c .either .ensures
-    ∙ sym (common-behind (a .m) (a .store) (a .time) (six s) (sym (e .before .common-refusal .ensures) ∙ e .if1 .left))
+    c .either .ensures ∙ sym (first-behind (tested s) (six s) refl (sym (e .before .common-refusal .ensures) ∙ e .if1 .left))
 
 pub route-refusal-spec : {M : Type 1} → statement M
 route-refusal-spec =
