@@ -1,5 +1,6 @@
 //! Drafts of files: right header fields and records at random, laid out apart from either writer.
 
+use crate::dates::LAST_DAYS;
 use crate::fields::{Header, RecordHeader, Release, Timestamp};
 use crate::random::Random;
 use crate::second::{EXTENDED, FIXED};
@@ -173,9 +174,11 @@ fn header(random: &mut Random, high: Release, low: Release) -> Header {
 /// A right timestamp.
 fn time(random: &mut Random) -> Timestamp {
     let mut upto = |least, most| random.between(least, most) as u32;
+    let month = upto(1, 12);
+    let last_day = LAST_DAYS[month as usize - 1];
     Timestamp {
-        month: upto(1, 12),
-        day: upto(1, 31),
+        month,
+        day: upto(1, last_day as usize),
         hour: upto(0, 23),
         minute: upto(0, 59),
         sign: upto(0, 1),

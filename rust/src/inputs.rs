@@ -1,6 +1,7 @@
 //! The inputs on which the two writers are compared: every combination of faults, so that the order
 //! of the writer's refusals shows.
 
+use crate::dates;
 use crate::draft::Draft;
 use crate::fields::{Header, Release, Timestamp};
 use crate::random::Random;
@@ -55,13 +56,21 @@ pub fn input(random: &mut Random, combination: usize) -> Input {
         needed + random.below(20)
     };
     let faulty = |refusal: &u8| has(combination, *refusal);
-    Input {
-        header: draft.header,
-        filter: draft.filter,
-        private: draft.private,
-        records: draft.records,
-        room,
-        answer: REFUSALS.into_iter().find(faulty).unwrap_or(0),
+    let answer = REFUSALS.into_iter().find(faulty).unwrap_or(0);
+    Input::of(draft, room, answer)
+}
+
+impl Input {
+    /// A draft's fields and parts.
+    pub fn of(draft: Draft, room: usize, answer: u8) -> Self {
+        Self {
+            header: draft.header,
+            filter: draft.filter,
+            private: draft.private,
+            records: draft.records,
+            room,
+            answer,
+        }
     }
 }
 
@@ -146,12 +155,17 @@ fn either_release<'a>(random: &mut Random, header: &'a mut Header) -> &'a mut Re
     }
 }
 
-/// Puts a wrong value in a timestamp, or makes the filter or the private octets too many.
+/// Puts a wrong value in a timestamp, or a day that its month lacks; or makes the filter or the
+/// private octets too many.
 fn put_wrong_value(random: &mut Random, draft: &mut Draft) {
     let many = random.pick(&[65_535, 65_536, 70_000, 131_072]);
-    match random.below(6) {
+    match random.below(7) {
         0 => draft.filter = random.octets(many),
         1 => draft.private = random.octets(many),
+        2 => {
+            let time = either_time(random, &mut draft.header);
+            (time.month, time.day) = random.pick(&dates::missing());
+        }
         _ => {
             let time = either_time(random, &mut draft.header);
             let field = random.pick(&TIME_FIELDS);

@@ -3,7 +3,9 @@
 //! compared.
 
 pub mod audit;
+pub mod cdrlist;
 pub mod cdrname;
+pub mod dates;
 pub mod draft;
 pub mod fields;
 pub mod files;

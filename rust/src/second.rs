@@ -1,5 +1,6 @@
 //! The second reader and writer of TS 32.297 files, and the timestamp of a minute: written in safe
-//! Rust from document 01 and clause 6.1 of TS 32.297 V13.1.0, and from nothing of the proved code.
+//! Rust from documents 01 and 02 and clause 6.1 of TS 32.297 V13.1.0, and from nothing of the proved
+//! code.
 
 #![forbid(unsafe_code)]
 
@@ -290,10 +291,19 @@ fn time_fits(time: &Timestamp) -> bool {
         && time.dev_minute <= 63
 }
 
-/// Whether a timestamp is right: any day up to 31 in any month, either sign.
+/// The last day that a month, 1 to 12, can have; no year is written, so February always has 29.
+fn last_day(month: u32) -> u32 {
+    match month {
+        2 => 29,
+        4 | 6 | 9 | 11 => 30,
+        _ => 31,
+    }
+}
+
+/// Whether a timestamp is right: a day that its month can have, either sign.
 fn is_right(time: &Timestamp) -> bool {
     (1..=12).contains(&time.month)
-        && (1..=31).contains(&time.day)
+        && (1..=last_day(time.month)).contains(&time.day)
         && time.hour <= 23
         && time.minute <= 59
         && time.dev_hour <= 23
@@ -618,12 +628,18 @@ mod tests {
             set(&mut file, at, word as usize);
             refusal(&file)
         };
-        let right = 0x2F80_0000; // 31 February, minus 0
+        let right = 0x2E80_0000; // 29 February, minus 0
         for at in [10, 14] {
             assert_eq!(with(right, at), 0);
             assert_eq!(with(right & !(15 << 28), at), 10, "month 0");
             assert_eq!(with(13 << 28 | 1 << 23, at), 10, "month 13");
             assert_eq!(with(right & !(31 << 23), at), 10, "day 0");
+            let days = [31, 29, 31, 30, 31, 30, 31, 31, 30, 31, 30, 31];
+            for (month, last) in (1..).zip(days) {
+                assert_eq!(with(month << 28 | last << 23, at), 0, "the last of {month}");
+                let beyond = month << 28 | (last + 1) << 23;
+                assert!(last == 31 || with(beyond, at) == 10, "one more in {month}");
+            }
             assert_eq!(with(right | 24 << 18, at), 10);
             assert_eq!(with(right | 60 << 12, at), 10);
             assert_eq!(with(right | 24 << 6, at), 10);

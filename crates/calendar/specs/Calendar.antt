@@ -16,6 +16,11 @@ common = 31 ∷ 28 ∷ 31 ∷ 30 ∷ 31 ∷ 30 ∷ 31 ∷ 31 ∷ 30 ∷ 31 ∷ 3
 abbrev pub leap : List ℕ
 leap = 31 ∷ 29 ∷ 31 ∷ 30 ∷ 31 ∷ 30 ∷ 31 ∷ 31 ∷ 30 ∷ 31 ∷ 30 ∷ 31 ∷ []
 
+-- the most days that a month, 1 to 12, has in any year, and 0 for a number that is no month: 29 February may always be, since no
+-- year is written (document 02, ask 2)
+abbrev pub longest : ℕ → ℕ
+longest month = getD (0 ∷ leap) month 0
+
 -- days of the month m, counted from January 2000, which is 0; 2000 is divisible by 4, so a year is where its number after 2000 is
 unfoldable pub monthDays : ℕ → ℕ
 monthDays m = cond (eqb (m / 12 % 4) 0) (getD leap (m % 12) 0) (getD common (m % 12) 0)

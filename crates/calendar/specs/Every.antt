@@ -26,6 +26,28 @@ within-at b [] t k = zero-le
 within-at b (x ∷ xs) t zero = leb→le x b (and-left (leb x b) (within b xs) t)
 within-at b (x ∷ xs) t (suc k) = within-at b xs (and-right (leb x b) (within b xs) t) k
 
+-- each entry is at least b
+abbrev pub above : ℕ → List ℕ → Bool
+above b [] = true
+above b (x ∷ xs) = leb b x && above b xs
+
+pub above-at : (b : ℕ) (xs : List ℕ) → T (above b xs) → (k : ℕ) → k < length xs → b ≤ getD xs k 0
+above-at b [] t k h = absurd (not-suc-le-zero h)
+above-at b (x ∷ xs) t zero h = leb→le b x (and-left (leb b x) (above b xs) t)
+above-at b (x ∷ xs) t (suc k) h = above-at b xs (and-right (leb b x) (above b xs) t) k (le-of-suc-le-suc h)
+
+-- each entry is at most the other list's at its place
+abbrev pub below : List ℕ → List ℕ → Bool
+below [] ys = true
+below (x ∷ xs) [] = false
+below (x ∷ xs) (y ∷ ys) = leb x y && below xs ys
+
+pub below-at : (xs ys : List ℕ) → T (below xs ys) → (k : ℕ) → getD xs k 0 ≤ getD ys k 0
+below-at [] ys t k = zero-le
+below-at (x ∷ xs) [] t k = absurd t
+below-at (x ∷ xs) (y ∷ ys) t zero = leb→le x y (and-left (leb x y) (below xs ys) t)
+below-at (x ∷ xs) (y ∷ ys) t (suc k) = below-at xs ys (and-right (leb x y) (below xs ys) t) k
+
 -- each entry is the one before it and the step at that one's place, which are counted from i; x stands before the list
 abbrev pub steps : (ℕ → ℕ) → ℕ → ℕ → List ℕ → Bool
 steps f i x [] = true

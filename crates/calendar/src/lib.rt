@@ -1,10 +1,11 @@
-// The date of a local day from 1999-12-31 to 2100-01-01, found in the table of first days by a binary search.
+// The date of a local day from 1999-12-31 to 2100-01-01, found in the table of first days by a binary search; and the most days that a
+// month has.
 mod table;
 
 use table::FIRST_DAYS;
 ghost use mathlib.Core.Path.{_≡_};
 ghost use Prim.Native.Nat.{suc, _<_};
-ghost use Rattle.calendar.specs.Calendar.{dateOf};
+ghost use Rattle.calendar.specs.Calendar.{dateOf, longest};
 ghost use Rattle.calendar.specs.FirstDay.{FirstDays};
 
 // A date without its year: month 1 to 12, day 1 to 31.
@@ -47,4 +48,13 @@ pub fn local_date(n: u32) -> Date
         return Date { month: 1, day: 1 };
     }
     search(&FIRST_DAYS, n - 1)
+}
+
+// The most days that a month has in any year; 0 for a number that is no month.
+pub fn longest(month: u32) -> u32
+    ensures { λ r. ⌜ r ≡ longest month ⌝ }
+{
+    let days = [0u32, 31, 29, 31, 30, 31, 30, 31, 31, 30, 31, 30, 31];
+    let at = month as usize;
+    if at < 13 { days[at] } else { 0 }
 }

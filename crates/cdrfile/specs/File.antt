@@ -1,8 +1,9 @@
 -- A CDR file as document 01 describes it (File header, Record header; 000, 6.1): its fields and records, which of them are
 -- right, and the octets that they have. This says what a file IS; how the reader judges octets is a definition of its own.
--- As document 01, any closure reason, lost indicator, address, format, TS number and either sign are right, and so are day 31
--- in any month and a last append before the opening. 000, 6.1.1.6 has a last append of 0 in an empty file; document 01 has
--- none such: month 0 is wrong. 000 keeps the length of all ones free; here no file is longer than 1,048,576 octets.
+-- As document 01, any closure reason, lost indicator, address, format, TS number and either sign are right, and so is a last
+-- append before the opening. A timestamp's day exists in its month (document 02, ask 2). 000, 6.1.1.6 has a last append of 0 in
+-- an empty file; document 01 has none such: month 0 is wrong. 000 keeps the length of all ones free; here no file is longer than
+-- 1,048,576 octets.
 -- Assumes nothing.
 use mathlib.Core.Path.{_≡_}
 use mathlib.Core.Bool.{Bool, cond, not, _&&_}

@@ -5,10 +5,11 @@
 use mathlib.Core.Path.{_≡_, refl}
 use mathlib.Core.Bool.{true, false}
 use mathlib.Core.List.{List, [], _∷_, _++_}
-use Prim.Native.Nat.{ℕ, _+_, _-_}
+use Prim.Native.Nat.{ℕ, _+_, _-_, _*_, _/_, _%_}
 use lib.ListN.{getD, set, replicate, take}
 use Rattle.octets.specs.Splice.{splice}
 use Rattle.calendar.specs.Calendar.{dateFrom, monthDays}
+use Rattle.timestamp.specs.declared.Timestamp.{Timestamp}
 use Rattle.timestamp.specs.Timestamp.{wordOf, fieldsOf}
 use Rattle.timestamp.specs.LocalTime.{timestampOf}
 use Rattle.timestamp.specs.Stamp.{stampOf, refused}
@@ -21,7 +22,7 @@ use Rattle.cdrfile.specs.File.{File, fixedOctets, fileOctets, layout}
 use Rattle.reader.specs.declared.Part.{Part}
 use Rattle.reader.specs.Places.{headerAt}
 use Rattle.reader.specs.Reader.{wrongLength, wrongHeaderLength, verdict, refusedContents, readOf}
-use Rattle.writer.specs.Writer.{after, writeOf}
+use Rattle.writer.specs.Writer.{After, after, writeOf}
 use Rattle.writer.specs.Writer.{verdict as writerVerdict}
 use Rattle.state.specs.Loss.{indicator}
 use Rattle.state.specs.Routing.{fits, routeOf}
@@ -57,18 +58,22 @@ address =
     0xFF ∷ 0xFF ∷ 0xFF ∷ 0xFF
     ∷ 0 ∷ 0 ∷ 0 ∷ 0 ∷ 0 ∷ 0 ∷ 0 ∷ 0 ∷ 0 ∷ 0 ∷ 0xFF ∷ 0xFF ∷ 192 ∷ 0 ∷ 2 ∷ 1 ∷ []
 
-abbrev header : Header
-header =
+-- its header, with this opening and this last append
+abbrev timed : Timestamp → Timestamp → Header
+timed opened appended =
     record {
       high = release43;
       low = release43;
-      opened = timestampOf 0 (ahead 0);
-      appended = timestampOf 0 (ahead 0);
+      opened = opened;
+      appended = appended;
       sequence = 7;
       reason = 4;
       address = address;
       lost = 0;
     }
+
+abbrev header : Header
+header = timed (timestampOf 0 (ahead 0)) (timestampOf 0 (ahead 0))
 
 -- release 4, version 3, format 1, TS 15, body A1 B2
 abbrev onlyRecord : Record
@@ -254,6 +259,71 @@ Damaged =
 pub damaged : Damaged
 unfolding readOf verdict wrongLength wrongHeaderLength headerAt fieldsOf tallyOf walkOf cut highest lowest
 damaged = (refl, refl, refl, refl, refl, refl)
+
+-- Days at the ends of months (document 02, ask 2), in either timestamp of the table's file: what the reader makes of the file,
+-- and the writer of the fields. No year is written, so 29 February always exists.
+abbrev midnight : ℕ → ℕ → Timestamp
+midnight month day = record { month = month; day = day; hour = 0; minute = 0; sign = 1; «dev_hour» = 0; «dev_minute» = 0 }
+
+-- the file with that day in the timestamp at an offset
+abbrev dated : ℕ → ℕ → ℕ → List ℕ
+dated at month day = set (set octets at (month * 16 + day / 2)) (at + 1) (day % 2 * 128)
+
+abbrev room : List ℕ
+room = replicate 56 0xEE
+
+abbrev writtenOn : Timestamp → Timestamp → After
+writtenOn opened appended = writeOf (timed opened appended) [] [] recordPart room
+
+-- the reader takes the day and the writer writes it, as opening and as last append
+abbrev Exists : ℕ → ℕ → Type 0
+Exists month day =
+    (readOf (dated 10 month day) .refusal ≡ 0)
+    × (readOf (dated 14 month day) .refusal ≡ 0)
+    × (writtenOn (midnight month day) (midnight 1 1) ≡ after (record { refusal = 0; octets = 56 }) (dated 10 month day))
+    × (writtenOn (midnight 1 1) (midnight month day) ≡ after (record { refusal = 0; octets = 56 }) (dated 14 month day))
+
+-- both refuse it with 10, as opening and as last append
+abbrev Missing : ℕ → ℕ → Type 0
+Missing month day =
+    (readOf (dated 10 month day) ≡ refusedContents 10)
+    × (readOf (dated 14 month day) ≡ refusedContents 10)
+    × (writtenOn (midnight month day) (midnight 1 1) ≡ after (record { refusal = 10; octets = 0 }) room)
+    × (writtenOn (midnight 1 1) (midnight month day) ≡ after (record { refusal = 10; octets = 0 }) room)
+
+abbrev pub Dates : Type 0
+Dates =
+    -- the last day of each month
+    Exists 1 31 × Exists 2 29 × Exists 3 31 × Exists 4 30 × Exists 5 31 × Exists 6 30
+    × Exists 7 31 × Exists 8 31 × Exists 9 30 × Exists 10 31 × Exists 11 30 × Exists 12 31
+    -- and each day that a month lacks, though its five bits can say it
+    × Missing 2 30 × Missing 2 31 × Missing 4 31 × Missing 6 31 × Missing 9 31 × Missing 11 31
+    -- which is a wrong value; beyond its width is another refusal of the writer's
+    × (writtenOn (midnight 4 32) (midnight 1 1) ≡ after (record { refusal = 2; octets = 0 }) room)
+
+pub dates : Dates
+unfolding readOf verdict wrongLength wrongHeaderLength headerAt fieldsOf wordOf tallyOf walkOf cut highest lowest writeOf writerVerdict splice fileOctets fixedOctets
+dates = (
+  (refl, refl, refl, refl),
+  (refl, refl, refl, refl),
+  (refl, refl, refl, refl),
+  (refl, refl, refl, refl),
+  (refl, refl, refl, refl),
+  (refl, refl, refl, refl),
+  (refl, refl, refl, refl),
+  (refl, refl, refl, refl),
+  (refl, refl, refl, refl),
+  (refl, refl, refl, refl),
+  (refl, refl, refl, refl),
+  (refl, refl, refl, refl),
+  (refl, refl, refl, refl),
+  (refl, refl, refl, refl),
+  (refl, refl, refl, refl),
+  (refl, refl, refl, refl),
+  (refl, refl, refl, refl),
+  (refl, refl, refl, refl),
+  refl,
+)
 
 -- A file with every part that may be absent: a filter, private octets, and release 7 as high and low, with extensions 9 and 2.
 -- Its header has 61 octets, not 50 and the filter's 3. The program `cdrcopy` has the same file as its case.

@@ -1,11 +1,11 @@
 -- DEMAND 2 of document 01, stated alone: read this file without its proof (Proof.antt).
 --
 -- In plain words. Octets x are accepted by the reader exactly when document 01 describes them, that is when they are the
--- layout of right fields and right records; the fields and records that the reader hands back are those, and no others have
--- the same octets. Any other octets get the first number of 8 to 13, in order, whose condition holds. What the writer wrote
--- the reader accepts and hands back, fields and records, and the octets behind the file stay. What the reader accepts, the
--- writer writes again with the same octets. Two different sets of fields and records that the writer accepts never have the
--- same file.
+-- layout of right fields and right records, timestamps of days that exist (document 02, ask 2) among them; the fields and
+-- records that the reader hands back are those, and no others have the same octets. Any other octets get the first number of
+-- 8 to 13, in order, whose condition holds. What the writer wrote the reader accepts and hands back, fields and records, and
+-- the octets behind the file stay. What the reader accepts, the writer writes again with the same octets. Two different sets
+-- of fields and records that the writer accepts never have the same file.
 --
 -- `readOf` and `writeOf` are the definitions that the contracts of reader::read and writer::write cite, over every input;
 -- `layout` and `RightFile` (cdrfile, File) are what a file is; `handedBack` is what a caller takes from the reader's answer;

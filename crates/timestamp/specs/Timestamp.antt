@@ -1,6 +1,7 @@
--- A timestamp's word and what makes a timestamp right: document 01, Timestamps (000, 6.1.1.5).
+-- A timestamp's word and what makes a timestamp right: document 01, Timestamps (000, 6.1.1.5), and document 02, ask 2.
 -- The word is the sum of the fields by powers of two, and the fields come back by quotients and remainders: nobody need read bit operations.
--- As in the standard, a right timestamp may have day 31 in any month, and either sign, also where the deviation is 0; both are kept as read.
+-- Stricter than the standard, the day must exist in its month; 29 February always does, since no year is written. As in the standard, either
+-- sign is right, also where the deviation is 0, and is kept as read.
 -- The sign is no part of `right`, since one bit has no wrong value; where it comes from elsewhere, `Right` and `Narrow` bound it.
 -- Laws: tests and bounds agree, a right timestamp fits its bits, and word and fields are each other's inverse. Assumes nothing.
 use mathlib.Core.Path.{_≡_}
@@ -11,6 +12,8 @@ use native.Mathlib.Omega.{arith}
 use lib.Dec.{leb, ltb}
 use borrow.Author.Tests.{leb-true, le-leb, ltb-true, lt-ltb}
 use Rattle.refusals.specs.Tests.{allOf, each}
+use Rattle.calendar.specs.Calendar.{longest}
+use Rattle.calendar.specs.Bound.{longest-le}
 use Rattle.timestamp.specs.declared.Timestamp.{Timestamp}
 
 -- each field within its bits, from the top bit: month 4, day 5, hour 5, minute 6, sign 1, deviation hours 5, deviation minutes 6
@@ -56,13 +59,13 @@ fieldsOf w =
       «dev_minute» = w % 2 ^ 6;
     }
 
--- month is 1 to 12, day 1 to 31, hours 0 to 23, minutes 0 to 59, both deviations likewise
+-- month is 1 to 12, day 1 to the month's longest, hours 0 to 23, minutes 0 to 59, both deviations likewise
 abbrev rightTests : Timestamp → List Bool
 rightTests t =
     leb 1 (t .month)
     ∷ leb (t .month) 12
     ∷ leb 1 (t .day)
-    ∷ leb (t .day) 31
+    ∷ leb (t .day) (longest (t .month))
     ∷ leb (t .hour) 23
     ∷ leb (t .minute) 59
     ∷ leb (t .«dev_hour») 23
@@ -78,7 +81,7 @@ pub record Right (t : Timestamp) : Type 0 where
   pub month-low : 1 ≤ t .month
   pub month-high : t .month ≤ 12
   pub day-low : 1 ≤ t .day
-  pub day-high : t .day ≤ 31
+  pub day-high : t .day ≤ longest (t .month)
   pub hour : t .hour ≤ 23
   pub minute : t .minute ≤ 59
   pub sign : t .sign < 2
@@ -142,7 +145,7 @@ module _ (t : Timestamp) where
 
   -- a right timestamp fits its bits
   pub right-narrow : Right t → Narrow t
-  right-narrow r = omega arith
+  right-narrow r = omega (arith, longest-le (t .month))
 
   -- the same of one that the test finds right
   pub tested-narrow : right t ≡ true → t .sign < 2 → Narrow t

@@ -67,14 +67,15 @@ pub fn is_narrow(t: Timestamp) -> bool
         & (t.dev_minute < 64)
 }
 
-// Whether a timestamp that was read is right. Either sign is.
+// Whether a timestamp that was read is right: its day exists in its month. Either sign is.
 pub fn is_right(t: Timestamp) -> bool
     ensures { λ r. ⌜ r ≡ right t ⌝ }
 {
+    let longest = calendar::longest(t.month);
     (1 <= t.month)
         & (t.month <= 12)
         & (1 <= t.day)
-        & (t.day <= 31)
+        & (t.day <= longest)
         & (t.hour <= 23)
         & (t.minute <= 59)
         & (t.dev_hour <= 23)

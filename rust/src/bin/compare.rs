@@ -1,6 +1,7 @@
 //! Compares the second reader and writer with the proved ones, in one process and from a fixed
 //! seed: prints how often each answer came, or the first difference and the file in hexadecimal.
 
+use leveehum::dates::{self, Dated};
 use leveehum::fields::Header;
 use leveehum::files::FAMILIES;
 use leveehum::inputs::{self, Input};
@@ -16,6 +17,8 @@ use std::time::Instant;
 const SEED: u64 = 0x3229_7000_2026_0001;
 /// The fewest files that a run must have compared.
 const LEAST_FILES: usize = 20_000;
+/// Rounds over the days of the months.
+const DATE_ROUNDS: usize = 4;
 /// Rounds over the writer's faults; files that are too long are slow, so they are in few.
 const WRITER_ROUNDS: usize = 200;
 const LONG_WRITER_ROUNDS: usize = 20;
@@ -36,6 +39,8 @@ struct Counts {
     files: usize,
     records: usize,
     reader: Tally,
+    /// Files with each day of each month, by the timestamp that has it.
+    dates: [Tally; 2],
     writer: Tally,
     step: Tally,
     stamp: Tally,
@@ -55,6 +60,7 @@ fn main() -> ExitCode {
         complete("writer", &counts.writer, &[0, 2, 10, 11, 13, 8, 17]),
         complete("step", &counts.step, &[0, 11]),
         complete("timestamp", &counts.stamp, &[0, 4, 2]),
+        counts.dates.iter().all(|tally| came(tally, &[0, 10])),
         counts.files >= LEAST_FILES,
     ];
     println!("{:.1} seconds", start.elapsed().as_secs_f64());
@@ -81,6 +87,7 @@ fn run(counts: &mut Counts) -> Result<(), Difference> {
         }
         counts.add_family(family.name, &tally);
     }
+    compare_dates(&mut random, counts)?;
     compare_writers(&mut random, counts)?;
     compare_stamps(&mut random, &mut counts.stamp).map_err(|what| Difference {
         what,
@@ -103,6 +110,11 @@ impl Counts {
 /// Prints how often each answer came; whether each that should come did.
 fn complete(name: &str, tally: &Tally, expected: &[u8]) -> bool {
     println!("{name:27} {}", shown(tally));
+    came(tally, expected)
+}
+
+/// Whether each answer that should come did.
+fn came(tally: &Tally, expected: &[u8]) -> bool {
     let came = |answer: &u8| tally.get(answer).is_some_and(|&times| times > 0);
     expected.iter().all(came)
 }
@@ -290,6 +302,34 @@ fn write_proved(
         None => Ok(()),
         Some(at) => same("write: output", (at, expected_output[at]), (at, output[at])),
     }
+}
+
+/// Both readers and both writers where a day is the only fault, if it is one, in either timestamp.
+fn compare_dates(random: &mut Random, counts: &mut Counts) -> Result<(), Difference> {
+    for (index, place) in dates::PLACES.iter().enumerate() {
+        let mut tally = Tally::new();
+        for _ in 0..DATE_ROUNDS {
+            for Dated { draft, answer } in dates::dated(random, place) {
+                let file = draft.lay().octets;
+                compare_file(random, &file, counts)
+                    .and_then(|read| same("reader against plan", answer, read))
+                    .map_err(|what| {
+                        let what = format!("{}: {what}", place.name);
+                        Difference {
+                            what,
+                            octets: file.clone(),
+                        }
+                    })?;
+                let given = Input::of(draft, file.len(), answer);
+                compare_writer(random, &given, &mut counts.writer)
+                    .map_err(|what| writer_difference(what, &given))?;
+                *tally.entry(answer).or_default() += 1;
+            }
+        }
+        counts.add_family(place.name, &tally);
+        counts.dates[index] = tally;
+    }
+    Ok(())
 }
 
 /// What an output holds before a writer comes.
