@@ -10,10 +10,10 @@ pub const LONGEST_LINE: usize = 4_096;
 
 /// What a line of W asks for.
 #[derive(Clone, Copy, Debug, PartialEq, Eq)]
-struct Writing<'a> {
-    fields: Fields<'a>,
+pub struct Writing<'a> {
+    pub fields: Fields<'a>,
     /// The octets of the output.
-    room: usize,
+    pub room: usize,
 }
 
 /// All that the program prints for this input.
@@ -86,7 +86,7 @@ fn answer_writing(Writing { fields, room }: Writing) -> String {
 }
 
 /// The thirteen words of a line of W, if they have their forms.
-fn writing(words: &[u8]) -> Option<Writing<'_>> {
+pub fn writing(words: &[u8]) -> Option<Writing<'_>> {
     let words: Vec<&[u8]> = words.split(|&octet| octet == b' ').collect();
     let [node, count, year, month, day, hour, minute, sign, dev_hour, dev_minute, has, private, room] =
         words[..]

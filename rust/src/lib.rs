@@ -3,12 +3,16 @@
 //! compared.
 
 pub mod audit;
+pub mod bounds;
+pub mod cdrcopy;
 pub mod cdrlist;
 pub mod cdrname;
 pub mod dates;
 pub mod draft;
+pub mod faults;
 pub mod fields;
 pub mod files;
+pub mod forge;
 pub mod gate;
 pub mod inputs;
 pub mod manager;
@@ -21,4 +25,6 @@ pub mod random;
 pub mod scripts;
 pub mod second;
 pub mod settings;
+pub mod states;
 pub mod timing;
+pub mod trials;

@@ -3,6 +3,8 @@
 
 #![forbid(unsafe_code)]
 
+mod by_value;
+
 use crate::second::{self, EXTENDED, FIXED, LAST_MINUTE, LONGEST_FILE, RESERVED, WIDEST_OFFSET};
 
 /// The most routes that settings may have.

@@ -1,6 +1,9 @@
 //! The proved library (`libexports.a`): its declarations, and a safe function for each.
 
 use crate::fields::{Header, RecordHeader};
+use crate::manager::Arrival;
+use crate::name;
+use crate::states::{Answer, State};
 use std::ops::Range;
 
 /// A part of a file.
@@ -61,11 +64,108 @@ pub struct Stamped {
     pub octets: [u8; 4],
 }
 
+/// The fields of a file name, each with room for more than is right.
+#[repr(C)]
+#[derive(Clone, Copy, Debug, Default, PartialEq, Eq)]
+pub struct NameFields {
+    pub count: u32,
+    pub year: u32,
+    pub month: u32,
+    pub day: u32,
+    pub hour: u32,
+    pub minute: u32,
+    pub sign: u32,
+    pub dev_hour: u32,
+    pub dev_minute: u32,
+    /// 1 if the private part is there and 0 if it is not.
+    pub has: u32,
+}
+
+impl From<&name::Fields<'_>> for NameFields {
+    fn from(fields: &name::Fields) -> Self {
+        let closing = &fields.closing;
+        Self {
+            count: fields.count,
+            year: closing.year,
+            month: closing.month,
+            day: closing.day,
+            hour: closing.hour,
+            minute: closing.minute,
+            sign: closing.sign,
+            dev_hour: closing.dev_hour,
+            dev_minute: closing.dev_minute,
+            has: fields.has,
+        }
+    }
+}
+
+/// The answer to a name that is read: refused, it is 20 and zeros elsewhere.
+#[repr(C)]
+#[derive(Clone, Copy, Debug, Default, PartialEq, Eq)]
+pub struct NameRead {
+    pub refusal: u8,
+    /// Octets of the node identifier, which begin the name, and of the private part, which end it.
+    pub node: usize,
+    pub private: usize,
+    pub fields: NameFields,
+}
+
+/// An event's answer and the state behind it.
+#[repr(C)]
+struct Outcome {
+    answer: Answer,
+    state: State,
+}
+
+/// The answer to settings.
+#[repr(C)]
+#[derive(Clone, Copy, Debug, PartialEq, Eq)]
+pub struct Fresh {
+    pub refusal: u8,
+    pub state: State,
+}
+
+/// What RECEIVE carries beside time, key and body.
+#[repr(C)]
+struct ArrivalFields {
+    mark: u32,
+    release: u32,
+    version: u32,
+    extension: u8,
+    format: u32,
+    ts: u32,
+}
+
+impl From<&Arrival<'_>> for ArrivalFields {
+    fn from(arrival: &Arrival) -> Self {
+        Self {
+            mark: arrival.mark,
+            release: arrival.release,
+            version: arrival.version,
+            extension: arrival.extension,
+            format: arrival.format,
+            ts: arrival.ts,
+        }
+    }
+}
+
+impl Fresh {
+    /// The fresh manager's state, or the settings' refusal.
+    pub fn accepted(self) -> Result<State, u8> {
+        match self.refusal {
+            0 => Ok(self.state),
+            refusal => Err(refusal),
+        }
+    }
+}
+
 // A slice crosses as a pointer and a length.
 extern "C" {
     fn cdr_read(file: *const u8, file_octets: usize) -> Read;
+    fn cdr_step(part: *const u8, part_octets: usize) -> Step;
     fn cdr_step_at(file: *const u8, file_octets: usize, at: usize) -> Step;
     fn cdr_body_at(file: *const u8, file_octets: usize, at: usize) -> Part;
+    fn cdr_part_of(file: *const u8, file_octets: usize, part: Part) -> Part;
     fn cdr_write(
         header: Header,
         filter: *const u8,
@@ -78,12 +178,73 @@ extern "C" {
         output_octets: usize,
     ) -> Written;
     fn cdr_stamp(minutes: u32, bias: u32) -> Stamped;
+    fn cdr_name_read(name: *const u8, name_octets: usize) -> NameRead;
+    fn cdr_name_write(
+        fields: NameFields,
+        node: *const u8,
+        node_octets: usize,
+        private: *const u8,
+        private_octets: usize,
+        output: *mut u8,
+        output_octets: usize,
+    ) -> Written;
+}
+
+// The manager's calls take the state by value and hand back the one behind the event.
+extern "C" {
+    fn cdr_load(settings: *const u8, settings_octets: usize) -> Fresh;
+    fn cdr_open(
+        state: State,
+        store: *mut u8,
+        store_octets: usize,
+        output: *mut u8,
+        output_octets: usize,
+        time: u32,
+        route: u32,
+    ) -> Outcome;
+    fn cdr_close(
+        state: State,
+        store: *mut u8,
+        store_octets: usize,
+        output: *mut u8,
+        output_octets: usize,
+        time: u32,
+        route: u32,
+        reason: u32,
+    ) -> Outcome;
+    fn cdr_tick(
+        state: State,
+        store: *mut u8,
+        store_octets: usize,
+        output: *mut u8,
+        output_octets: usize,
+        time: u32,
+    ) -> Outcome;
+    fn cdr_receive(
+        state: State,
+        store: *mut u8,
+        store_octets: usize,
+        output: *mut u8,
+        output_octets: usize,
+        time: u32,
+        fields: ArrivalFields,
+        key: *const u8,
+        key_octets: usize,
+        body: *const u8,
+        body_octets: usize,
+    ) -> Outcome;
 }
 
 /// Reads a file.
 pub fn read(file: &[u8]) -> Read {
     // SAFETY: pointer and length are those of a slice that lives through the call; it is only read.
     unsafe { cdr_read(file.as_ptr(), file.len()) }
+}
+
+/// The record that begins with the part.
+pub fn step(part: &[u8]) -> Step {
+    // SAFETY: as in `read`.
+    unsafe { cdr_step(part.as_ptr(), part.len()) }
 }
 
 /// The record that begins at an offset of the file.
@@ -96,6 +257,12 @@ pub fn step_at(file: &[u8], at: usize) -> Step {
 pub fn body_at(file: &[u8], at: usize) -> Part {
     // SAFETY: as in `read`; any offset is allowed.
     unsafe { cdr_body_at(file.as_ptr(), file.len(), at) }
+}
+
+/// Where such a part stands in the file; zeros if it is empty or not within the file.
+pub fn part_of(file: &[u8], part: Part) -> Part {
+    // SAFETY: as in `read`; any part is allowed.
+    unsafe { cdr_part_of(file.as_ptr(), file.len(), part) }
 }
 
 /// Writes a file of these fields, octets and records.
@@ -127,4 +294,125 @@ pub fn write(
 pub fn stamp(minutes: u32, bias: u32) -> Stamped {
     // SAFETY: no pointers.
     unsafe { cdr_stamp(minutes, bias) }
+}
+
+/// Reads a file name.
+pub fn name_read(name: &[u8]) -> NameRead {
+    // SAFETY: as in `read`.
+    unsafe { cdr_name_read(name.as_ptr(), name.len()) }
+}
+
+/// Writes the file name of these fields: 20 and 21 come with 0 octets.
+pub fn name_write(fields: &name::Fields, output: &mut [u8]) -> Written {
+    // SAFETY: as in `write`.
+    unsafe {
+        cdr_name_write(
+            fields.into(),
+            fields.node.as_ptr(),
+            fields.node.len(),
+            fields.private.as_ptr(),
+            fields.private.len(),
+            output.as_mut_ptr(),
+            output.len(),
+        )
+    }
+}
+
+/// The fresh manager's state of these settings; or their refusal and a state beyond its bounds.
+pub fn load(settings: &[u8]) -> Fresh {
+    // SAFETY: as in `read`.
+    unsafe { cdr_load(settings.as_ptr(), settings.len()) }
+}
+
+/// Puts the state behind an event in the place of the one before it.
+#[inline]
+fn settle(state: &mut State, outcome: Outcome) -> Answer {
+    *state = outcome.state;
+    outcome.answer
+}
+
+/// OPEN; the state becomes the one that is handed back, here and below.
+pub fn open(
+    state: &mut State,
+    store: &mut [u8],
+    output: &mut [u8],
+    time: u32,
+    route: u32,
+) -> Answer {
+    let (to, octets) = (output.as_mut_ptr(), output.len());
+    // SAFETY: both pointers and lengths are those of slices that live through the call, and as
+    // `&mut` they do not overlap.
+    let outcome = unsafe {
+        cdr_open(
+            *state,
+            store.as_mut_ptr(),
+            store.len(),
+            to,
+            octets,
+            time,
+            route,
+        )
+    };
+    settle(state, outcome)
+}
+
+/// CLOSE.
+pub fn close(
+    state: &mut State,
+    store: &mut [u8],
+    output: &mut [u8],
+    time: u32,
+    route: u32,
+    reason: u32,
+) -> Answer {
+    // SAFETY: as in `open`.
+    let outcome = unsafe {
+        cdr_close(
+            *state,
+            store.as_mut_ptr(),
+            store.len(),
+            output.as_mut_ptr(),
+            output.len(),
+            time,
+            route,
+            reason,
+        )
+    };
+    settle(state, outcome)
+}
+
+/// TICK.
+pub fn tick(state: &mut State, store: &mut [u8], output: &mut [u8], time: u32) -> Answer {
+    let (to, octets) = (output.as_mut_ptr(), output.len());
+    // SAFETY: as in `open`.
+    let outcome = unsafe { cdr_tick(*state, store.as_mut_ptr(), store.len(), to, octets, time) };
+    settle(state, outcome)
+}
+
+/// RECEIVE.
+#[inline]
+pub fn receive(
+    state: &mut State,
+    store: &mut [u8],
+    output: &mut [u8],
+    time: u32,
+    arrival: &Arrival,
+) -> Answer {
+    // SAFETY: as in `open`; key and body are only read, and neither store nor output overlaps them.
+    let outcome = unsafe {
+        cdr_receive(
+            *state,
+            store.as_mut_ptr(),
+            store.len(),
+            output.as_mut_ptr(),
+            output.len(),
+            time,
+            arrival.into(),
+            arrival.key.as_ptr(),
+            arrival.key.len(),
+            arrival.body.as_ptr(),
+            arrival.body.len(),
+        )
+    };
+    settle(state, outcome)
 }

@@ -11,7 +11,7 @@ use borrow.Author.Tests.{ltb-false}
 use Rattle.refusals.specs.Refusal.{Rule, _when_, passed}
 use Rattle.record.specs.Walk.{tallyOf}
 use Rattle.cdrfile.specs.declared.Header.{Header}
-use Rattle.cdrfile.specs.File.{wrongOrder}
+use Rattle.cdrfile.specs.Order.{wrongOrder}
 use Rattle.reader.specs.declared.Contents.{Contents}
 use Rattle.reader.specs.Reader.{readOf, partOf}
 use Rattle.writer.specs.Writer.{After, after, beyondWidth, wrongValue, neededOctets, verdict, written, settled, writeOf}

@@ -1,22 +1,14 @@
--- A CDR file as document 01 describes it (File header, Record header; 000, 6.1): its fields and records, which of them are
--- right, and the octets that they have. This says what a file IS; how the reader judges octets is a definition of its own.
--- As document 01, any closure reason, lost indicator, address, format, TS number and either sign are right, and so is a last
--- append before the opening. A timestamp's day exists in its month (document 02, ask 2). 000, 6.1.1.6 has a last append of 0 in
--- an empty file; document 01 has none such: month 0 is wrong. 000 keeps the length of all ones free; here no file is longer than
--- 1,048,576 octets.
--- Assumes nothing.
-use mathlib.Core.Path.{_≡_}
-use mathlib.Core.Bool.{Bool, cond, not, _&&_}
+-- A CDR file (document 01, File header, Record header; 000, 6.1): its fields and records, and the octets that they have. Which
+-- fields and records are right, roundtrip's specs say (Described.antt); how the reader judges octets, reader's. Assumes nothing.
+use mathlib.Core.Bool.{cond}
 use mathlib.Core.List.{List, [], _∷_, _++_}
-use Prim.Native.Nat.{ℕ, _+_, _≤_, _<_, _^_}
-use lib.Dec.{eqb, ltb}
+use Prim.Native.Nat.{ℕ, _+_}
+use lib.Dec.{eqb}
 use lib.ListN.{length}
-use Rattle.octets.specs.Number.{be, octetsAt, Octets}
-use Rattle.timestamp.specs.Timestamp.{wordOf, Right}
-use Rattle.record.specs.declared.Release.{Release}
-use Rattle.record.specs.declared.Tallied.{Tallied}
-use Rattle.record.specs.Release.{NarrowRelease, releaseOctet, extensionOctets, rank}
-use Rattle.record.specs.Record.{Record, AllRight, recordsOctets, highest, lowest}
+use Rattle.octets.specs.Number.{be, octetsAt}
+use Rattle.timestamp.specs.Timestamp.{wordOf}
+use Rattle.record.specs.Release.{releaseOctet, extensionOctets}
+use Rattle.record.specs.Record.{Record, recordsOctets}
 use Rattle.cdrfile.specs.declared.Header.{Header}
 
 -- a file: the header's fields, the routeing filter, the private octets (none: no private extension) and the records
@@ -59,32 +51,3 @@ fileOctets h filter private body count =
 
 abbrev pub layout : File → List ℕ
 layout f = fileOctets (f .header) (f .filter) (f .private) (recordsOctets (f .records)) (length (f .records))
-
--- high and low are the greatest and least among the records; of an empty file only low ≤ high is asked
-abbrev pub Ordered : Release → Release → List Record → Type 0
-Ordered high low [] = rank low ≤ rank high
-Ordered high low (r ∷ rs) = (rank high ≡ highest (r ∷ rs)) × (rank low ≡ lowest (r ∷ rs))
-
--- the same as a test on what a walk found, for the reader and the writer: refusal 13
-abbrev pub wrongOrder : Release → Release → Tallied → Bool
-wrongOrder high low t = cond (eqb (t .count) 0) (ltb (rank high) (rank low)) (not (eqb (rank high) (t .high) && eqb (rank low) (t .low)))
-
--- a file that document 01 describes
-pub record RightFile (f : File) : Type 0 where
-  pub high : NarrowRelease (f .header .high)
-  pub low : NarrowRelease (f .header .low)
-  pub opened : Right (f .header .opened)
-  pub appended : Right (f .header .appended)
-  pub sequence : f .header .sequence < 2 ^ 32
-  pub reason : f .header .reason < 256
-  pub address : (length (f .header .address) ≡ 20) × Octets (f .header .address)
-  pub lost : f .header .lost < 256
-  pub filter : (length (f .filter) ≤ 65534) × Octets (f .filter)
-  pub private : (length (f .private) ≤ 65534) × Octets (f .private)
-  pub records : AllRight (f .records)
-  pub ordered : Ordered (f .header .high) (f .header .low) (f .records)
-  pub size : length (layout f) ≤ 1048576
-
--- octets that document 01 describes
-abbrev pub Described : List ℕ → Type 0
-Described x = (f : File) × RightFile f × (layout f ≡ x)

@@ -1,4 +1,4 @@
 pub mod File
+pub mod Order
 pub mod Laws
 pub mod Needs
-pub mod Ordered

@@ -7,7 +7,8 @@ ghost use Prim.Native.Nat.{_+_, _≤_, _<_};
 ghost use lib.ListN.{length};
 ghost use Rattle.octets.specs.Splice.{splice};
 ghost use Rattle.record.specs.Release.{releaseOctet, extensionOctets};
-ghost use Rattle.cdrfile.specs.File.{wrongOrder, fixedOctets, headerLength, privateOctets, fileOctets};
+ghost use Rattle.cdrfile.specs.File.{fixedOctets, headerLength, privateOctets, fileOctets};
+ghost use Rattle.cdrfile.specs.Order.{wrongOrder};
 ghost use Rattle.cdrfile.specs.Laws.{fixedFrom};
 ghost use Rattle.cdrfile.specs.Needs.{Writable, Layable};
 

@@ -1,2 +1,3 @@
 pub mod Manager
 pub mod EdgeTable
+pub mod Shared

@@ -1,5 +1,7 @@
 // The public calls for programs in other languages, under C's calling convention: tests and benchmarks link them.
 use cdrfile::Header;
+use filename::Fields;
+use filename::Name;
 use manager::Arrival;
 use manager::Outcome;
 use reader::Contents;
@@ -10,7 +12,7 @@ use state::Manager;
 use timestamp::Stamped;
 use writer::Written;
 ghost use mathlib.Core.Path.{_≡_};
-ghost use Rattle.record.specs.Step.{stepAt};
+ghost use Rattle.record.specs.Step.{stepOf, stepAt};
 ghost use Rattle.reader.specs.Reader.{readOf};
 ghost use Rattle.timestamp.specs.Stamp.{stampOf};
 ghost use Rattle.writer.specs.Writer.{after, writeOf};
@@ -18,13 +20,23 @@ ghost use Rattle.settings.specs.Settings.{freshOf};
 ghost use Rattle.manager.specs.Events.{openOf, closeOf, tickOf};
 ghost use Rattle.manager.specs.Events.{after as left};
 ghost use Rattle.manager.specs.Receive.{receiveOf};
-ghost use Rattle.exports.specs.Place.{bodyPlace};
+ghost use Rattle.filename.specs.Reading.{readOf as nameOf};
+ghost use Rattle.filename.specs.Writing.{after as spelled};
+ghost use Rattle.filename.specs.Writing.{writeOf as nameWritten};
+ghost use Rattle.exports.specs.Place.{bodyPlace, partPlace};
 
 #[no_mangle]
 pub extern "C" fn cdr_read(file: &[u8]) -> Contents
     ensures { λ r. ⌜ r ≡ readOf (now (file .entry)) ⌝ }
 {
     reader::read(file)
+}
+
+#[no_mangle]
+pub extern "C" fn cdr_step(part: &[u8]) -> Stepped
+    ensures { λ r. ⌜ r ≡ stepOf (now (part .entry)) ⌝ }
+{
+    record::step(part)
 }
 
 #[no_mangle]
@@ -70,6 +82,24 @@ pub extern "C" fn cdr_body_at(file: &[u8], at: usize) -> Part
     Part {
         start: at + s.header,
         octets: body.len(),
+    }
+}
+
+// The part's place, likewise; that of the empty part is zeros, whatever place was asked for.
+#[no_mangle]
+pub extern "C" fn cdr_part_of(file: &[u8], p: Part) -> Part
+    ensures { λ r. ⌜ r ≡ partPlace (now (file .entry)) p ⌝ }
+{
+    let part = reader::part_of(file, p);
+    if part.len() == 0 {
+        return Part {
+            start: 0,
+            octets: 0,
+        };
+    }
+    Part {
+        start: p.start,
+        octets: part.len(),
     }
 }
 
@@ -127,4 +157,23 @@ pub extern "C" fn cdr_receive(
     ensures { λ r. ⌜ left r (now (store .exit)) (now (output .exit)) ≡ receiveOf m (now (store .entry)) (now (output .entry)) time a (now (key .entry)) (now (body .entry)) ⌝ }
 {
     receiving::receive(m, store, output, time, a, key, body)
+}
+
+#[no_mangle]
+pub extern "C" fn cdr_name_read(name: &[u8]) -> Name
+    ensures { λ r. ⌜ r ≡ nameOf (now (name .entry)) ⌝ }
+{
+    filename::read(name)
+}
+
+#[no_mangle]
+pub extern "C" fn cdr_name_write(
+    f: Fields,
+    node: &[u8],
+    private: &[u8],
+    output: &mut [u8],
+) -> filename::Written
+    ensures { λ r. ⌜ spelled r (now (output .exit)) ≡ nameWritten f (now (node .entry)) (now (private .entry)) (now (output .entry)) ⌝ }
+{
+    filename::write(f, node, private, output)
 }

@@ -9,7 +9,7 @@ use native.Mathlib.Omega.{arith}
 use lib.Dec.{ltb, leb, eqb, eqb·suc-zero}
 use lib.ListN.{length, getD, length-append, length-map, List·getD-map}
 use lib.Seq.{getD-set-same, getD-set-other, map-set-same}
-use borrow.Author.Tests.{eqb-true, eqb-false, eq-eqb, ne-eqb}
+use borrow.Author.Tests.{eqb-true, eqb-false, eq-eqb, ne-eqb, leb-false}
 use Rattle.refusals.specs.Refusal.{_when_, passed}
 use Rattle.record.specs.Record.{Record}
 use Rattle.cdrfile.specs.File.{File}
@@ -22,9 +22,9 @@ use Rattle.manager.specs.declared.Arrival.{Arrival}
 use Rattle.manager.specs.Events.{After}
 use Rattle.manager.specs.Receive.{recordOf}
 use Rattle.ledger.specs.Event.{Event, OPEN, CLOSE, TICK, RECEIVE, Lent}
-use Rattle.ledger.specs.Ledger.{OpenFile, Current, none, some, Line, Ledger, noLine, lineAt, fileFrom, openLine, closeLine, withCurrent, receivedLine, lostLine, notedLine, appendTo, withLine, withTime, Closing, Entry, recordsIn, recordsOf, isOpen, opens, closeEntry, dueFile, closeDue, tickTo, ticks, amongLines, routedTo, lostBy, differsFrom, exceedsWith, fullWith, Ready, openFor, turnOver, readyBy, appendEntry, places, loses, notedLines, unroutes, effective, refusal, neededBy, regions, answerBy, entryBy, answerOf, entryOf}
+use Rattle.ledger.specs.Ledger.{OpenFile, Current, none, some, Line, Ledger, noLine, lineAt, fileFrom, openLine, closeLine, withCurrent, receivedLine, lostLine, notedLine, appendTo, withLine, withTime, Closing, Entry, recordsIn, recordsOf, isOpen, opens, closeEntry, dueFile, closeDue, tickTo, ticks, amongLines, routedTo, lostBy, differsFrom, exceedsWith, fullWith, Ready, openFor, turnOver, readyBy, appendEntry, places, loses, notedLines, unroutes, effective, closingReasons, isOneOf, refusal, neededBy, regions, answerBy, entryBy, answerOf, entryOf}
 use Rattle.ledger.specs.Run.{Booked, booked, booksOf, ledgerAfter, lineFrom, linesFrom, ledgerFrom}
-use Rattle.ledger.specs.Demand3.{receivedOn, lostRule, unroutedBy, one, received, lost, unrouted, placedIf, placed, onRoute, closedOn, Answered}
+use Rattle.ledger.specs.Demand3.{receivedOn, lostRule, unroutedBy, one, received, lost, unrouted, placedIf, placed, onRoute, closedOn, AllBelow, Answered}
 
 -- the records of some files, and how many they are
 abbrev pub flat : List File → List Record
@@ -213,6 +213,19 @@ tagged-append : (k : ℕ) (fs gs : List File) → tagged k (fs ++ gs) ≡ tagged
 tagged-append k [] gs = refl
 tagged-append k (f ∷ fs) gs = ap (λ (cs : List Closing). record { route = k; file = f } ∷ cs) (tagged-append k fs gs)
 
+-- their routes are below any number that the route is below
+below-more : (n m : ℕ) (cs : List Closing) → n ≤ m → AllBelow n cs → AllBelow m cs
+below-more n m [] h p = tt
+below-more n m (c ∷ cs) h p = (omega (arith, p .0), below-more n m cs h (p .1))
+
+below-append : (n : ℕ) (cs ds : List Closing) → AllBelow n cs → AllBelow n ds → AllBelow n (cs ++ ds)
+below-append n [] ds p q = q
+below-append n (c ∷ cs) ds p q = (p .0, below-append n cs ds (p .1) q)
+
+tagged-below : (n k : ℕ) (fs : List File) → k < n → AllBelow n (tagged k fs)
+tagged-below n k [] h = tt
+tagged-below n k (f ∷ fs) h = (h, tagged-below n k fs h)
+
 on-own : (k : ℕ) (fs : List File) → onRoute k (tagged k fs) ≡ fs
 on-own k [] = refl
 on-own k (f ∷ fs) = λ i. cond (eq-eqb k k refl i) (f ∷ on-own k fs i) (on-own k fs i)
@@ -248,6 +261,10 @@ module _ {l : Ledger} {k t r s : ℕ} {e : Entry} {ps : List Record} (h : Touche
 
   touched-unrouted : e .ledger .unrouted ≡ l .unrouted
   touched-unrouted = ap (λ (x : Entry). x .ledger .unrouted) (h .entry)
+
+  touched-below : k < length (l .lines) → AllBelow (length (l .lines)) (e .closings)
+  touched-below low =
+      subst (λ (x : Entry). AllBelow (length (l .lines)) (x .closings)) (sym (h .entry)) (tagged-below (length (l .lines)) k (h .files) low)
 
   touched-line : (i : ℕ) → i < length (l .lines) → (b : Bool) → eqb k i ≡ b
       → Step (lineAt l i) (lineAt (changed l k t (h .line) (h .files) .ledger) i) (cond b r 0) (cond b s 0) (onRoute i (tagged k (h .files))) (cond b ps [])
@@ -392,6 +409,7 @@ lose-touches l t k = record { line = lostLine (lineAt l k); files = []; entry = 
 pub record Ticked (l : Ledger) (n : ℕ) (e : Entry) : Type 0 where
   pub same : Same l (e .ledger)
   pub unrouted : e .ledger .unrouted ≡ l .unrouted
+  pub below : AllBelow n (e .closings)
   pub later : (i : ℕ) → n ≤ i → lineAt (e .ledger) i ≡ lineAt l i
   pub quiet : (i : ℕ) → n ≤ i → onRoute i (e .closings) ≡ []
   pub line : (i : ℕ) → i < length (l .lines) → Step (lineAt l i) (lineAt (e .ledger) i) 0 0 (onRoute i (e .closings)) []
@@ -402,6 +420,7 @@ module _ (l : Ledger) (t n : ℕ) (e : Entry) (h : Ticked l n e) where
       record {
         same = h .same;
         unrouted = h .unrouted;
+        below = below-more n (suc n) (e .closings) (omega arith) (h .below);
         later = λ i low. h .later i (omega arith);
         quiet = λ i low. h .quiet i (omega arith);
         line = h .line;
@@ -454,6 +473,9 @@ module _ (l : Ledger) (t n : ℕ) (e : Entry) (h : Ticked l n e) where
                     ∙ h .same .settings;
               };
           unrouted = h .unrouted;
+          below =
+              below-append (suc n) (e .closings) (record { route = n; file = due } ∷ []) (below-more n (suc n) (e .closings) (omega arith) (h .below))
+              ((omega arith), tt);
           later = λ i low. on-line i (λ z. omega arith) ∙ h .later i (omega arith);
           quiet = λ i low. on-quiet i (λ z. omega arith) ∙ h .quiet i (omega arith);
           line = λ i low. on-step i low (eqb n i) refl;
@@ -472,6 +494,7 @@ ticked l t zero =
     record {
       same = same-self l;
       unrouted = refl;
+      below = tt;
       later = λ i low. refl;
       quiet = λ i low. refl;
       line = λ i low. stays (lineAt l i);
@@ -492,6 +515,7 @@ noted-at (x ∷ xs) (suc i) low = noted-at xs i (omega arith)
 pub record Moved (l : Ledger) (e : Event) (b : Booked) : Type 0 where
   pub same : Same l (b .entry .ledger)
   pub unrouted : b .entry .ledger .unrouted ≡ l .unrouted + one (unroutedBy l e (b .answer))
+  pub below : AllBelow (length (l .lines)) (b .entry .closings)
   pub line : (i : ℕ) → i < length (l .lines)
       → Step (lineAt l i) (lineAt (b .entry .ledger) i)
       (one (receivedOn l i e (b .answer)))
@@ -521,6 +545,7 @@ module _ (l : Ledger) where
       record {
         same = same-self l;
         unrouted = rw (refused-unrouted l n e a h) (omega arith);
+        below = tt;
         line = λ i low. rw (refused-received l i n e a h) (stays (lineAt l i));
       }
 
@@ -537,20 +562,21 @@ module _ (l : Ledger) where
   open-moves : (a : Answer) (t time k : ℕ) → isOpen (lineAt l k .current) ≡ false
       → Moved l (OPEN time k) (record { answer = a; entry = opens l t k })
   open-moves a t time k e = let h = open-touches l t k e in
-      record { same = touched-same h; unrouted = omega (arith, touched-unrouted h); line = quiet-line h }
+      record { same = touched-same h; unrouted = omega (arith, touched-unrouted h); below = tt; line = quiet-line h }
 
-  close-moves : (a : Answer) (t time k reason : ℕ) (c : Current) → lineAt l k .current ≡ c
+  close-moves : (a : Answer) (t time k reason : ℕ) → k < length (l .lines) → (c : Current) → lineAt l k .current ≡ c
       → Moved l (CLOSE time k reason) (record { answer = a; entry = closeEntry l t k reason c })
-  close-moves a t time k reason none e =
-      record { same = same-self l; unrouted = omega arith; line = λ i low. stays (lineAt l i) }
-  close-moves a t time k reason (some f) e = let h = close-touches l t k reason f e in
-      record { same = touched-same h; unrouted = omega (arith, touched-unrouted h); line = quiet-line h }
+  close-moves a t time k reason low none e =
+      record { same = same-self l; unrouted = omega arith; below = tt; line = λ i low. stays (lineAt l i) }
+  close-moves a t time k reason low (some f) e = let h = close-touches l t k reason f e in
+      record { same = touched-same h; unrouted = omega (arith, touched-unrouted h); below = touched-below h low; line = quiet-line h }
 
   tick-moves : (a : Answer) (t time : ℕ) → Moved l (TICK time) (record { answer = a; entry = ticks l t })
   tick-moves a t time = let h = ticked l t (length (l .lines)) in
       record {
         same = record { address = h .same .address; bias = h .same .bias; settings = h .same .settings };
         unrouted = omega (arith, h .unrouted);
+        below = h .below;
         line = h .line;
       }
 
@@ -590,6 +616,7 @@ module _ (l : Ledger) where
           unrouted =
               let none : unroutedBy l event a ≡ false = λ j. eqb (fine j) 0 && not (f j) in
               rw none (omega (arith, touched-unrouted h));
+          below = touched-below h (routed-below l key x f);
           line = λ i low. rw (received-found f i) (kinds i c q e (eqb (to .at) i) refl (touched-at h i low));
         }
 
@@ -605,6 +632,7 @@ module _ (l : Ledger) where
           unrouted =
               let listed : unroutedBy l event a ≡ true = λ j. eqb (fine j) 0 && not (f j) in
               rw listed refl;
+          below = tt;
           line = λ i low. rw (received-none f i, noted-at (l .lines) i low) (step-noted (lineAt l i));
         }
 
@@ -625,9 +653,21 @@ module _ (l : Ledger) where
       let p6 = passed 5 (leb (length (l .lines)) i) r14 (p4 .1) in
       passed 13 (isOpen (lineAt l i .current)) last (p6 .1) .0
 
+  -- an accepted CLOSE names a configured route
+  close-finds : (n k time i reason : ℕ) → refusal l n k (CLOSE time i reason) ≡ 0 → i < length (l .lines)
+  close-finds n k time i reason e =
+      let last = (17 when ltb k (neededBy l (CLOSE time i reason))) ∷ [] in
+      let r15 = (15 when not (isOpen (lineAt l i .current))) ∷ last in
+      let r7 = (7 when not (isOneOf reason closingReasons)) ∷ r15 in
+      let r6 = (6 when leb (length (l .lines)) i) ∷ r7 in
+      let r4 = (4 when ltb 52595999 time) ∷ r6 in
+      let p16 = passed 15 (ltb n (regions (l .lines))) r4 e in
+      let p4 = passed 3 (ltb 52595999 time) r6 (p16 .1) in
+      leb-false (length (l .lines)) i (passed 5 (leb (length (l .lines)) i) r7 (p4 .1) .0)
+
   carried-moves : (n k : ℕ) (e : Event) → refusal l n k e ≡ 0 → Moved l e (record { answer = answerBy zero l e; entry = entryBy zero l e })
   carried-moves n k (OPEN time i) z = open-moves _ (effective l (OPEN time i)) time i (open-finds n k time i z)
-  carried-moves n k (CLOSE time i reason) z = close-moves _ (effective l (CLOSE time i reason)) time i reason (lineAt l i .current) refl
+  carried-moves n k (CLOSE time i reason) z = close-moves _ (effective l (CLOSE time i reason)) time i reason (close-finds n k time i reason z) (lineAt l i .current) refl
   carried-moves n k (TICK time) z = tick-moves _ (effective l (TICK time)) time
   carried-moves n k (RECEIVE time x key body) z =
       receive-by (answerBy zero l (RECEIVE time x key body)) refl time (effective l (RECEIVE time x key body)) x key body (routedTo l x key .found) refl

@@ -1,20 +1,23 @@
 -- DEMAND 3 of document 01, stated alone: read this file without its proof (Proof.antt).
 --
 -- In plain words. Take any settings octets that are accepted, a store of any length and content, and any list of OPEN, CLOSE,
--- TICK and RECEIVE, refused ones included, with any clock and any output lent to each. Run the manager on the list, and keep the
--- ledger of document 01 beside it, which is fed the settings, the store's length and each event's arguments and output length,
--- and nothing of the manager. Then every answer is the ledger's, and 18 never comes. Each event's output keeps its length, begins
--- with the files that the ledger closes at that event, one behind another, and its other octets are as lent: all of them if none
--- closes or the event is refused. For each route the records received, counted in the list by the routing rule, are those in its
--- closed files, as the reader counts them, those in its open file, as the state counts them, and those lost, counted in the list
--- by the loss rule. The other received records stand in its closed files in order of closing and then in the open file's part of
--- the store, in order of receipt, octet for octet. Every closed file is accepted by the reader, with the fields and records that
--- the ledger gives. Open count, loss counters and unrouted counter in the state are the ledger's; its received and lost records
--- are those counted in the list, and the accepted unrouted records of the list number the unrouted counter.
+-- TICK and RECEIVE, refused ones included, with any clock and any output lent to each. Run the manager on the list, and keep
+-- the ledger of document 01 beside it, which is fed the settings, the store's length and each event's arguments and output
+-- length, and nothing of the manager. Then every answer is the ledger's, and 18 never comes. The outcome of an event is 3,
+-- lost, exactly when it is an accepted RECEIVE that is routed and that the loss rule calls lost there. Each event's output
+-- keeps its length, begins with the files that the ledger closes at that event, one behind another, and its other octets are
+-- as lent: all of them if none closes or the event is refused. Each file closes on a configured route. For each route the
+-- records received, counted in the list by the routing rule, are those in its closed files, as the reader counts them, those
+-- in its open file, as the state counts them, and those lost, counted in the list by the loss rule. The other received
+-- records stand in its closed files in order of closing and then in the open file's part of the store, in order of receipt,
+-- octet for octet. Every closed file is accepted by the reader, with the fields and records that the ledger gives. Open
+-- count, loss counters and unrouted counter in the state are the ledger's; its received and lost records are those counted in
+-- the list, and the accepted unrouted records of the list number the unrouted counter.
 --
 -- `freshOf`, `openOf`, `closeOf`, `tickOf` and `receiveOf`, of which `happens` and `runOf` are made, are the definitions that the
 -- contracts of the calls cite. Assumes nothing.
 use mathlib.Core.Path.{_≡_}
+use mathlib.Core.Logic.{_↔_}
 use mathlib.Core.Bool.{Bool, true, false, cond, not, _&&_}
 use mathlib.Core.List.{List, [], _∷_, _++_}
 use Prim.Native.Nat.{ℕ, _+_, _≤_, _<_}
@@ -38,12 +41,12 @@ use Rattle.ledger.specs.Event.{Event, OPEN, CLOSE, TICK, RECEIVE, Lent}
 use Rattle.ledger.specs.Ledger.{Ledger, lineAt, Closing, routedTo, lostBy, recordsOf}
 use Rattle.ledger.specs.Run.{runOf, Booked, booksOf, joined, endOf, storeAfter, ledgerAfter, ledgerFrom}
 
--- an event as the machine can be given it: octets are below 256, a record's extension too
+-- an event as the machine can be given it: a body's octets are below 256, a record's extension too
 abbrev pub Given : Event → Type 0
 Given (OPEN time i) = Unit {0}
 Given (CLOSE time i reason) = Unit {0}
 Given (TICK time) = Unit {0}
-Given (RECEIVE time a key body) = (a .extension < 256) × Octets key × Octets body
+Given (RECEIVE time a key body) = (a .extension < 256) × Octets body
 
 abbrev pub AllGiven : List Lent → Type 0
 AllGiven [] = Unit {0}
@@ -65,6 +68,21 @@ lostRule l i (OPEN time r) = false
 lostRule l i (CLOSE time r reason) = false
 lostRule l i (TICK time) = false
 lostRule l i (RECEIVE time a key body) = lostBy (lineAt l i .settings) a (length body)
+
+-- the same on whichever route it was received
+abbrev pub lostThere : Ledger → Event → Answer → Bool
+lostThere l (OPEN time r) answer = false
+lostThere l (CLOSE time r reason) answer = false
+lostThere l (TICK time) answer = false
+lostThere l (RECEIVE time a key body) answer =
+    eqb (answer .refusal) 0 && routedTo l a key .found && lostBy (lineAt l (routedTo l a key .at) .settings) a (length body)
+
+-- the outcome of each event is 3 exactly where that says so
+abbrev pub LostExactly : Ledger → List Lent → List After → Type 0
+LostExactly l [] done = Unit {0}
+LostExactly l (e ∷ es) [] = ⊥
+LostExactly l (e ∷ es) (a ∷ done) =
+    ((a .outcome .answer .outcome ≡ 3) ↔ (lostThere l (e .event) (a .outcome .answer) ≡ true)) × LostExactly l es done
 
 -- *unrouted*: by an accepted RECEIVE, and no route is found
 abbrev pub unroutedBy : Ledger → Event → Answer → Bool
@@ -128,6 +146,15 @@ abbrev pub closedOn : ℕ → List Booked → List File
 closedOn i [] = []
 closedOn i (b ∷ bs) = onRoute i (b .entry .closings) ++ closedOn i bs
 
+-- the routes that close files are below n
+abbrev pub AllBelow : ℕ → List Closing → Type 0
+AllBelow n [] = Unit {0}
+AllBelow n (c ∷ cs) = (c .route < n) × AllBelow n cs
+
+abbrev pub ClosedBelow : ℕ → List Booked → Type 0
+ClosedBelow n [] = Unit {0}
+ClosedBelow n (b ∷ bs) = AllBelow n (b .entry .closings) × ClosedBelow n bs
+
 -- Each event's answer and output, beside what the ledger booked for it.
 abbrev pub Answered : List Lent → List After → List Booked → Type 0
 Answered [] [] [] = Unit {0}
@@ -154,8 +181,11 @@ standing m store i = cond (routeAt m i .«open») (take (routeAt m i .file .octe
 pub record Demand3 (m : Manager) (l : Ledger) (store : List ℕ) (es : List Lent) : Type 0 where
   -- every answer and every output is the ledger's
   pub answered : Answered es (runOf m store es) (booksOf l (length store) es)
-  -- each file belongs to the route that closes it
+  -- each file belongs to the route that closes it, and that route is configured
+  pub configured : ClosedBelow (m .count) (booksOf l (length store) es)
   pub filed : (i : ℕ) → i < m .count → lineAt (ledgerAfter l (length store) es) i .closed ≡ closedOn i (booksOf l (length store) es)
+  -- a record is lost exactly when the loss rule says so
+  pub lost-exactly : LostExactly l es (runOf m store es)
   -- received = closed counts + open count + lost
   pub balance : (i : ℕ) → i < m .count
       → received l i es (runOf m store es)
@@ -181,5 +211,5 @@ pub record Demand3 (m : Manager) (l : Ledger) (store : List ℕ) (es : List Lent
 -- DEMAND 3: it holds of the fresh manager and the ledger of any accepted settings, any store, and any list of events.
 abbrev pub Claim : Type 0
 Claim =
-    (xs store : List ℕ) (es : List Lent) → Octets xs → freshOf xs .refusal ≡ 0 → Octets store → AllGiven es
+    (xs store : List ℕ) (es : List Lent) → Octets xs → freshOf xs .refusal ≡ 0 → AllGiven es
     → Demand3 (freshOf xs .manager) (ledgerFrom xs) store es

@@ -15,7 +15,8 @@ use Rattle.record.specs.declared.Release.{Release}
 use Rattle.record.specs.Release.{NarrowRelease, rank}
 use Rattle.record.specs.Record.{Record, AllRight, recordsOctets, highest as greatestRank, lowest as leastRank}
 use Rattle.record.specs.Order.{rank-small}
-use Rattle.cdrfile.specs.File.{Ordered, RightFile, fileOctets, layout}
+use Rattle.cdrfile.specs.File.{fileOctets, layout}
+use Rattle.roundtrip.specs.Described.{Ordered, RightFile}
 use Rattle.cdrfile.specs.Laws.{file-length}
 use Rattle.state.specs.declared.RouteSettings.{RouteSettings}
 use Rattle.state.specs.declared.Manager.{Manager}

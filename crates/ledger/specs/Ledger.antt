@@ -2,7 +2,13 @@
 -- output length: no answers, nothing of the manager's state, no octets of the store. Records are records and files are files:
 -- it holds the last time, the number of unrouted records and for each route how many records were received and lost (without
 -- bound), the next sequence number, known losses and note since its last file closed, its closed files, and its open file if
--- any. The rules of routing, loss and closing are those of state and manager, carried out here on records. Assumes nothing.
+-- any. Opening, appending, closing, ages, sizes and every refusal are stated here anew, on records. Shared with the manager's
+-- definitions, and held apart from both: the places of the settings' octets (`settingsFrom`), the choice of a filter (`better`) and
+-- what a header carries of it (`filterOf`), the loss rule (`lost`), the indicator, the order and sameness of releases (`later`,
+-- `earlier`, `sameRelease`), the record of an arrival (`recordOf`), the header's size (`headerSize`) and the layout, local time
+-- (`timestampOf`), which refusal is the first (`first`), and the form of an answer (`answered`). Edge_table's Shared and EdgeTable
+-- evaluate these; `header-size` (state), `indicator-true` (state), `timestamp-right` (timestamp) and record's Order are laws of
+-- theirs. Assumes nothing.
 use mathlib.Core.Bool.{Bool, true, false, cond, not, _&&_, _||_}
 use mathlib.Core.List.{List, [], _∷_, _++_}
 use Prim.Native.Nat.{ℕ, zero, suc, _+_, _%_, _^_, max}
@@ -22,7 +28,7 @@ use Rattle.state.specs.Bounds.{sameRelease}
 use Rattle.state.specs.Routing.{nobody, better}
 use Rattle.manager.specs.declared.Answer.{Answer}
 use Rattle.manager.specs.declared.Arrival.{Arrival}
-use Rattle.manager.specs.Rules.{later, earlier, allowed, wrongFields, headerFor}
+use Rattle.manager.specs.Rules.{later, earlier, headerFor}
 use Rattle.manager.specs.Events.{answered}
 use Rattle.manager.specs.Receive.{recordOf}
 use Rattle.ledger.specs.Event.{Event, OPEN, CLOSE, TICK, RECEIVE}
@@ -386,6 +392,26 @@ countersFull l a key body =
     (lostBy (lineAt l (routedTo l a key .at) .settings) a body && eqb (lineAt l (routedTo l a key .at) .losses) 4294967295)
     (eqb (l .unrouted) 4294967295)
 
+-- 7: CLOSE may give the reasons 0, 4 and 128 to 131
+abbrev pub closingReasons : List ℕ
+closingReasons = 0 ∷ 4 ∷ 128 ∷ 129 ∷ 130 ∷ 131 ∷ []
+
+abbrev pub isOneOf : ℕ → List ℕ → Bool
+isOneOf n [] = false
+isOneOf n (x ∷ xs) = eqb n x || isOneOf n xs
+
+-- 5: what the mark lets be trusted is in range. 0, usable: the key's length and the record's fields; 1, body unusable, key good:
+-- the key's length; 2: nothing is to be trusted, so nothing is asked; there is no other mark
+abbrev pub fieldsFit : Arrival → Bool
+fieldsFit a =
+    leb (a .release) 7 && leb (a .format) 7 && leb (a .version) 31 && leb (a .ts) 31 && (eqb (a .release) 7 || eqb (a .extension) 0)
+
+abbrev pub fitsMark : ℕ → Arrival → ℕ → Bool
+fitsMark zero a key = leb key 20 && fieldsFit a
+fitsMark (suc zero) a key = leb key 20
+fitsMark (suc (suc zero)) a key = true
+fitsMark (suc (suc (suc n))) a key = false
+
 -- the octets of the files that the event would close
 abbrev pub neededBy : Ledger → Event → ℕ
 neededBy l e = lengths (carried l (effective l e) e .closings)
@@ -393,9 +419,9 @@ neededBy l e = lengths (carried l (effective l e) e .closings)
 abbrev pub ownRules : Ledger → Event → List Rule
 ownRules l (OPEN time i) = (6 when leb (length (l .lines)) i) ∷ (14 when isOpen (lineAt l i .current)) ∷ []
 ownRules l (CLOSE time i reason) =
-    (6 when leb (length (l .lines)) i) ∷ (7 when not (allowed reason)) ∷ (15 when not (isOpen (lineAt l i .current))) ∷ []
+    (6 when leb (length (l .lines)) i) ∷ (7 when not (isOneOf reason closingReasons)) ∷ (15 when not (isOpen (lineAt l i .current))) ∷ []
 ownRules l (TICK time) = []
-ownRules l (RECEIVE time a key body) = (5 when wrongFields a (length key)) ∷ (19 when countersFull l a key (length body)) ∷ []
+ownRules l (RECEIVE time a key body) = (5 when not (fitsMark (a .mark) a (length key))) ∷ (19 when countersFull l a key (length body)) ∷ []
 
 abbrev pub rules : Ledger → ℕ → ℕ → Event → List Rule
 rules l store output e =

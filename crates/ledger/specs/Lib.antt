@@ -7,7 +7,9 @@ pub mod Right
 pub mod Files
 pub mod Lines
 pub mod Regions
+pub mod Words
 pub mod Books
+pub mod Listed
 pub mod Refusals
 pub mod Steps
 pub mod StepClose

@@ -12,7 +12,8 @@ use Rattle.record.specs.declared.Tallied.{Tallied}
 use Rattle.record.specs.Record.{Record, recordsOctets}
 use Rattle.record.specs.Walk.{records, walkOf, tallied, tallyOf}
 use Rattle.record.specs.Format.{walks}
-use Rattle.cdrfile.specs.File.{File, layout, RightFile}
+use Rattle.cdrfile.specs.File.{File, layout}
+use Rattle.roundtrip.specs.Described.{RightFile}
 use Rattle.reader.specs.declared.Contents.{Contents}
 use Rattle.reader.specs.Reader.{contentsOf, readOf}
 use Rattle.roundtrip.specs.Handed.{handedBack}
@@ -31,9 +32,10 @@ use Rattle.ledger.specs.Steps.{AllRightFiles, open-holds}
 use Rattle.ledger.specs.StepClose.{close-holds}
 use Rattle.ledger.specs.StepTick.{tick-holds}
 use Rattle.ledger.specs.StepReceive.{receive-holds}
+use Rattle.ledger.specs.Listed.{closed-below, lost-exactly}
 use Rattle.ledger.specs.Claim.{AllRightBooks, EventHolds, runs}
 use Rattle.ledger.specs.Fresh.{fresh-agrees}
-use Rattle.ledger.specs.Demand3.{AllGiven, counted, walked, AllAccepted, onRoute, closedOn, openCount, Demand3, Claim}
+use Rattle.ledger.specs.Demand3.{AllGiven, counted, walked, AllAccepted, onRoute, closedOn, openCount, ClosedBelow, Demand3, Claim}
 
 -- A right file as the reader reads it.
 module _ (f : File) (r : RightFile f) where
@@ -110,7 +112,9 @@ from-fresh step xs store es o e g =
     let line : (i : ℕ) → i < routesIn xs → AgreesLine (storeAfter m store es) (base end i) (routeAt end i) (lineAt z i) = λ i h. w .agrees .lines i (low i h) in
     record {
       answered = w .answered;
+      configured = subst (λ (k : ℕ). ClosedBelow k bs) (fresh-length xs) (closed-below l n es);
       filed = λ i h. fresh-closed xs n es i h;
+      lost-exactly = lost-exactly l n es done (w .answered);
       balance =
           λ i h.
           received-booked l es done bs (w .answered) i
@@ -151,5 +155,5 @@ event store m l a (TICK time) output g = tick-holds a output time
 event store m l a (RECEIVE time v key body) output g = receive-holds a output time v key body g
 
 pub demand-3 : Claim
-demand-3 xs store es o e os g =
+demand-3 xs store es o e g =
     subst (λ (m : Manager). Demand3 m (ledgerFrom xs) store es) (sym (fresh-manager xs e)) (from-fresh event xs store es o e g)

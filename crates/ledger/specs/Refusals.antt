@@ -19,11 +19,12 @@ use Rattle.manager.specs.Rules.{routedTo as managerRoutes}
 use Rattle.manager.specs.Events.{common, openRules}
 use Rattle.manager.specs.Receive.{countersFull as managerFull}
 use Rattle.ledger.specs.Event.{OPEN, CLOSE, TICK}
-use Rattle.ledger.specs.Ledger.{Ledger, lineAt, isOpen, amongLines, routedTo, neededBy, refusal}
+use Rattle.ledger.specs.Ledger.{Ledger, lineAt, isOpen, amongLines, routedTo, closingReasons, isOneOf, neededBy, refusal}
 use Rattle.ledger.specs.Ledger.{regions as lineRegions}
 use Rattle.ledger.specs.Agrees.{Agrees}
 use Rattle.ledger.specs.Regions.{regions-same}
 use Rattle.ledger.specs.Lines.{open-same}
+use Rattle.ledger.specs.Words.{reason-same}
 
 -- a test that is false stands for nothing
 skip : (n : ℕ) (b : Bool) (rest : ℕ) → b ≡ false → cond b n rest ≡ rest
@@ -64,8 +65,8 @@ module _ {store : List ℕ} {m : Manager} {l : Ledger} (a : Agrees store m l) wh
       ≡ refusal l (length store) k (CLOSE time i reason)
   close-refusal k time i reason size f =
       common-same (length store) time ((6 when leb (m .count) i) ∷ (7 when not (allowed reason)) ∷ (15 when not (routeAt m i .«open»)) ∷ (17 when ltb k size) ∷ [])
-      (cond (leb (length (l .lines)) i) 6 (cond (not (allowed reason)) 7 (cond (not (isOpen (lineAt l i .current))) 15 (cond (ltb k (neededBy l (CLOSE time i reason))) 17 0))))
-      (configured i _ _ (λ h. ap (cond (not (allowed reason)) 7) (go h (isOpen (lineAt l i .current)) refl)))
+      (cond (leb (length (l .lines)) i) 6 (cond (not (isOneOf reason closingReasons)) 7 (cond (not (isOpen (lineAt l i .current))) 15 (cond (ltb k (neededBy l (CLOSE time i reason))) 17 0))))
+      (configured i _ _ (λ h j. cond (not (reason-same reason j)) 7 (go h (isOpen (lineAt l i .current)) refl j)))
     where
       go : i < m .count → (b : Bool) → isOpen (lineAt l i .current) ≡ b
           → cond {A = ℕ} (not (routeAt m i .«open»)) 15 (cond (ltb k size) 17 0) ≡ cond (not (isOpen (lineAt l i .current))) 15 (cond (ltb k (neededBy l (CLOSE time i reason))) 17 0)

@@ -14,7 +14,8 @@ use Rattle.refusals.specs.Refusal.{Rule, _when_, first, passed}
 use Rattle.refusals.specs.Tests.{both}
 use Rattle.record.specs.Release.{NarrowRelease}
 use Rattle.record.specs.Order.{narrowed}
-use Rattle.cdrfile.specs.File.{layout, RightFile}
+use Rattle.cdrfile.specs.File.{layout}
+use Rattle.roundtrip.specs.Described.{RightFile}
 use Rattle.octets.specs.Number.{Octets}
 use Rattle.state.specs.declared.RouteSettings.{RouteSettings}
 use Rattle.state.specs.declared.Manager.{Manager}

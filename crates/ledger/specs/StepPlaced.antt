@@ -18,7 +18,8 @@ use Rattle.record.specs.Release.{NarrowRelease, rank}
 use Rattle.record.specs.Record.{Record, recordOctets, RightRecord}
 use Rattle.record.specs.Order.{narrowed, narrow-true}
 use Rattle.record.specs.HeaderOctets.{record-length}
-use Rattle.cdrfile.specs.File.{File, layout, RightFile}
+use Rattle.cdrfile.specs.File.{File, layout}
+use Rattle.roundtrip.specs.Described.{RightFile}
 use Rattle.state.specs.declared.RouteSettings.{RouteSettings}
 use Rattle.state.specs.declared.Route.{Route}
 use Rattle.state.specs.declared.OpenFile.{OpenFile as RouteFile}

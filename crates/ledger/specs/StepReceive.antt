@@ -26,13 +26,14 @@ use Rattle.manager.specs.Events.{After, answered}
 use Rattle.manager.specs.Receive.{recordOf, isLost, placedSize, needed, receiveRules, lostAt, placedAt, unrouted, taken, receiveOf}
 use Rattle.manager.specs.Receive.{countersFull as managerFull}
 use Rattle.ledger.specs.Event.{RECEIVE}
-use Rattle.ledger.specs.Ledger.{Ledger, lineAt, Entry, lengths, amongLines, routedTo, lostBy, loses, places, unroutes, receives, countersFull, neededBy, refusal, answerOf, entryOf}
+use Rattle.ledger.specs.Ledger.{Ledger, lineAt, Entry, lengths, amongLines, routedTo, lostBy, loses, places, unroutes, receives, countersFull, fitsMark, neededBy, refusal, answerOf, entryOf}
 use Rattle.ledger.specs.Ledger.{effective as bookTime}
 use Rattle.ledger.specs.Ledger.{regions as lineRegions}
 use Rattle.ledger.specs.Run.{happens}
 use Rattle.ledger.specs.Agrees.{Agrees}
 use Rattle.ledger.specs.Regions.{regions-same}
 use Rattle.ledger.specs.Books.{routed-below}
+use Rattle.ledger.specs.Words.{fields-same}
 use Rattle.ledger.specs.Refusals.{routes-same}
 use Rattle.ledger.specs.Steps.{Holds, answerAt, event-holds, common-passed, effective-right, time-same}
 use Rattle.ledger.specs.StepUnrouted.{unrouted-holds, lost-holds}
@@ -203,7 +204,7 @@ behind false k x n other e = (refl, e)
 
 -- RECEIVE.
 module _ {store : List ℕ} {m : Manager} {l : Ledger} (a : Agrees store m l) (output : List ℕ) (time : ℕ) (v : Arrival) (key body : List ℕ)
-    (given : (v .extension < 256) × Octets key × Octets body) where
+    (given : (v .extension < 256) × Octets body) where
   -- where 16, 4 and 5 do not apply
   module _ (room : regions m ≤ length store) (early : time ≤ 52595999) (fields : wrongFields v (length key) ≡ false) where
     took : Took store output (needed m v key (length body) (effective m time)) (taken m store output (effective m time) v key body)
@@ -217,7 +218,7 @@ module _ {store : List ℕ} {m : Manager} {l : Ledger} (a : Agrees store m l) (o
         (cond (q .found) (cond (isLost m v (q .at) (length body)) (lostAt m store output t (q .at)) (placedAt m store output t v body (q .at))) (unrouted m store output t))
         (answerAt l t (RECEIVE time v key body)) (receives l t v key body))
         (sym (routes-same a v key))
-        (took-by a output t (w .0) (w .1) room v (length key) body fields (given .0) (given .2) (q .found) (q .at) (routing a v key))
+        (took-by a output t (w .0) (w .1) room v (length key) body fields (given .0) (given .1) (q .found) (q .at) (routing a v key))
 
     needed-same : needed m v key (length body) (effective m time) ≡ neededBy l (RECEIVE time v key body)
     needed-same = took .sizes ∙ ap (λ (t : ℕ). lengths (receives l t v key body .closings)) (time-same a time)
@@ -232,16 +233,16 @@ module _ {store : List ℕ} {m : Manager} {l : Ledger} (a : Agrees store m l) (o
       let e19 : ℕ = cond (managerFull m v key (length body)) 19 e17 in
       let b19 : ℕ = cond (countersFull l v key (length body)) 19 b17 in
       let e5 : ℕ = cond wrong 5 e19 in
-      let b5 : ℕ = cond wrong 5 b19 in
+      let b5 : ℕ = cond (not (fitsMark (v .mark) v (length key))) 5 b19 in
       let e4 : ℕ = cond (ltb 52595999 time) 4 e5 in
       let b4 : ℕ = cond (ltb 52595999 time) 4 b5 in
       ap (λ (b : Bool). cond {A = ℕ} (not b) 18 (cond (ltb (length store) (regions m)) 16 e4)) (a .right)
       ∙ unless 16 (ltb (length store) (regions m)) (ltb (length store) (lineRegions (l .lines))) e4 b4 (ap (ltb (length store)) (regions-same a))
       (λ p16. unless 4 (ltb 52595999 time) (ltb 52595999 time) e5 b5 refl
-      (λ p4. unless 5 wrong wrong e19 b19 refl
+      (λ p4. unless 5 wrong (not (fitsMark (v .mark) v (length key))) e19 b19 (fields-same v (length key))
       (λ p5. unless 19 (managerFull m v key (length body)) (countersFull l v key (length body)) e17 b17 (full-same a v key (length body))
       (λ p19. ap (λ (k : ℕ). cond {A = ℕ} (ltb (length output) k) 17 0)
-      (needed-same (omega (arith, regions-same a, ltb-false (length store) (lineRegions (l .lines)) p16)) (ltb-false 52595999 time p4) p5)))))
+      (needed-same (omega (arith, regions-same a, ltb-false (length store) (lineRegions (l .lines)) p16)) (ltb-false 52595999 time p4) (fields-same v (length key) ∙ p5))))))
 
   receive-needed : first (receiveRules m (length store) (length output) time v key (length body)) ≡ 17 → needed m v key (length body) (effective m time) ≡ neededBy l (RECEIVE time v key body)
   receive-needed e =

@@ -10,7 +10,8 @@ use lib.ListN.{length, length-append}
 use borrow.Author.Tests.{ltb-false}
 use Rattle.octets.specs.Splice.{splice}
 use Rattle.refusals.specs.Refusal.{_when_, first, passed}
-use Rattle.cdrfile.specs.File.{File, RightFile, layout}
+use Rattle.cdrfile.specs.File.{File, layout}
+use Rattle.roundtrip.specs.Described.{RightFile}
 use Rattle.state.specs.declared.Route.{Route}
 use Rattle.state.specs.declared.Manager.{Manager}
 use Rattle.state.specs.Manager.{routeAt, settingsAt, base, effective, withRoute}

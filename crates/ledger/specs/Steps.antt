@@ -11,7 +11,7 @@ use lib.ListN.{length}
 use borrow.Author.Tests.{ltb-false, leb-false, ne-eqb}
 use Rattle.octets.specs.Splice.{splice, splice-nil}
 use Rattle.refusals.specs.Refusal.{Rule, _when_, first, passed}
-use Rattle.cdrfile.specs.File.{RightFile}
+use Rattle.roundtrip.specs.Described.{RightFile}
 use Rattle.state.specs.declared.Route.{Route}
 use Rattle.state.specs.declared.Manager.{Manager}
 use Rattle.state.specs.Manager.{routeAt, settingsAt, regions, effective, withRoute, withTime}

@@ -13,7 +13,7 @@ use Rattle.record.specs.declared.Release.{Release}
 use Rattle.record.specs.declared.Tallied.{Tallied}
 use Rattle.record.specs.Walk.{tallyOf}
 use Rattle.cdrfile.specs.declared.Header.{Header}
-use Rattle.cdrfile.specs.File.{wrongOrder}
+use Rattle.cdrfile.specs.Order.{wrongOrder}
 use Rattle.reader.specs.declared.Contents.{Contents}
 use Rattle.reader.specs.declared.Part.{Part}
 use Rattle.reader.specs.Places.{headerLengthAt, filterLengthAt, plainLength, hasPrivate, privateLengthAt, privatePart, extensionsAt, headerAt}

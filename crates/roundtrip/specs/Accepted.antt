@@ -12,7 +12,7 @@ use Rattle.refusals.specs.Refusal.{_when_, first, passed}
 use Rattle.record.specs.declared.Tallied.{Tallied}
 use Rattle.record.specs.Record.{Record}
 use Rattle.record.specs.Walk.{Walked, records, broken, walkOf, tallied, tallyOf}
-use Rattle.cdrfile.specs.File.{wrongOrder}
+use Rattle.cdrfile.specs.Order.{wrongOrder}
 use Rattle.reader.specs.Places.{filterLengthAt, privatePart}
 use Rattle.reader.specs.Reader.{wrongLength, wrongHeaderLength, wrongValue, wrongRecords, headerOf, bodyOf, verdict, readOf, contentsOf}
 

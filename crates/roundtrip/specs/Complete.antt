@@ -21,9 +21,11 @@ use Rattle.record.specs.Record.{Record, recordOctets, recordsOctets}
 use Rattle.record.specs.Format.{record-some, walks}
 use Rattle.record.specs.Walk.{records, walkOf, tallied}
 use Rattle.cdrfile.specs.declared.Header.{Header}
-use Rattle.cdrfile.specs.File.{File, RightFile, fixedOctets, fileOctets, layout, headerLength, privateOctets, wrongOrder}
+use Rattle.cdrfile.specs.File.{File, fixedOctets, fileOctets, layout, headerLength, privateOctets}
+use Rattle.cdrfile.specs.Order.{wrongOrder}
+use Rattle.roundtrip.specs.Described.{RightFile}
 use Rattle.cdrfile.specs.Laws.{file-length, private-none, private-some, private-some-length, extension-seven}
-use Rattle.cdrfile.specs.Ordered.{not-wrong}
+use Rattle.roundtrip.specs.Ordered.{not-wrong}
 use Rattle.reader.specs.declared.Part.{Part}
 use Rattle.reader.specs.Places.{headerLengthAt, filterLengthAt, extensionsOf, plainLength, privateLengthAt, privatePart, extensionsAt, headerAt}
 use Rattle.reader.specs.Reader.{wrongLength, wrongHeaderLength, wrongValue, headerOf, bodyOf, contentsOf, partOf}

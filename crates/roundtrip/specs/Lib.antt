@@ -1,5 +1,9 @@
+pub mod Described
+pub mod Ordered
 pub mod Handed
 pub mod Held
+pub mod Stepping
+pub mod Steps
 pub mod Accepted
 pub mod Sound
 pub mod Back

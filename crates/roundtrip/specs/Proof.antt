@@ -1,27 +1,34 @@
 -- Demand 2 (Demand2.antt) holds: soundness (Sound, Back), completeness (Complete) and the writer's side (Write) together.
 -- Assumes nothing.
-use mathlib.Core.Path.{_≡_, sym, ap, _∙_, subst}
+use mathlib.Core.Path.{_≡_, refl, sym, ap, _∙_, subst, subst₂}
 use mathlib.Core.Logic.{_↔_}
 use mathlib.Core.List.{List, _++_}
 use Prim.Native.Nat.{ℕ, _+_, _≤_}
 use native.Mathlib.Nat.{zero-add}
 use native.Mathlib.Omega.{arith}
 use lib.ListN.{length, take, drop}
-use Rattle.octets.specs.Number.{Octets, octets-drop}
+use Rattle.octets.specs.Number.{Octets, num, octets-drop}
 use Rattle.octets.specs.Splice.{splice, splice-there}
+use Rattle.record.specs.declared.Tallied.{Tallied}
 use Rattle.record.specs.Record.{Record, recordsOctets}
-use Rattle.cdrfile.specs.File.{File, layout, RightFile, Described}
+use Rattle.record.specs.Walk.{tallied, tallyOf}
+use Rattle.cdrfile.specs.File.{File, layout}
+use Rattle.roundtrip.specs.Described.{RightFile, Described}
+use Rattle.cdrfile.specs.Laws.{file-length}
 use Rattle.reader.specs.declared.Contents.{Contents}
 use Rattle.reader.specs.Places.{headerLengthAt}
 use Rattle.reader.specs.Reader.{partOf, contentsOf, verdict, readOf}
+use Rattle.reader.specs.Frame.{sized}
 use Rattle.writer.specs.Writer.{After, writeOf}
 use Rattle.roundtrip.specs.Handed.{handedBack}
 use Rattle.roundtrip.specs.Accepted.{Accepted, accepts, accepted}
 use Rattle.roundtrip.specs.Sound.{fileAt, body, layout-again, right-again}
 use Rattle.roundtrip.specs.Complete.{complete, handed-again}
 use Rattle.roundtrip.specs.Back.{read-number, records-back, back}
-use Rattle.roundtrip.specs.Write.{given, right-held, write-number, Taken, taken, body-is, given-right, write-given, taken-right}
-use Rattle.roundtrip.specs.Demand2.{Call, Plain, Accepts, fileOf, Demand2}
+use Rattle.roundtrip.specs.Write.{given, right-held, write-number, Taken, taken, body-is, layout-given, given-right, write-given, taken-right}
+use Rattle.roundtrip.specs.Stepping.{stepped, steppedTo, NoneRefused}
+use Rattle.roundtrip.specs.Steps.{recovers}
+use Rattle.roundtrip.specs.Demand2.{Call, Plain, Accepts, fileOf, Gives, Demand2}
 
 -- Octets that the reader accepts.
 module _ {x : List ℕ} (o : Octets x) (e : readOf x .refusal ≡ 0) where
@@ -36,6 +43,31 @@ module _ {x : List ℕ} (o : Octets x) (e : readOf x .refusal ≡ 0) where
 
   layout-back : layout (handedBack x (readOf x)) ≡ x
   layout-back = ap layout back-read ∙ layout-again o (found .0) (found .1)
+
+  -- the records that were found are those handed back, as many as the count
+  records-found : handedBack x (readOf x) .records ≡ found .0
+  records-found = ap (λ (g : File). g .records) back-read
+
+  count-found : readOf x .count ≡ length (found .0)
+  unfolding tallyOf
+  count-found = ap (λ (c : Contents). c .count) (accepts x (found .0) (found .1)) ∙ ap (λ (t : Tallied). t .count) (ap tallied (found .1 .walk))
+
+  start-found : readOf x .records .start ≡ headerLengthAt x
+  start-found = ap (λ (c : Contents). c .records .start) (accepts x (found .0) (found .1))
+
+  counted : (readOf x .count ≡ num 4 x 18) × (readOf x .records .start ≡ num 4 x 4) × (length (handedBack x (readOf x) .records) ≡ readOf x .count)
+  counted = (count-found ∙ sym (found .1 .count), start-found, ap length records-found ∙ sym count-found)
+
+  recovered : NoneRefused x (readOf x .records .start) (readOf x .count)
+      × (stepped x (readOf x .records .start) (readOf x .count) ≡ handedBack x (readOf x) .records)
+      × (steppedTo x (readOf x .records .start) (readOf x .count) ≡ length x)
+  recovered =
+      let s = sized x (found .1 .length-right) (found .1 .header-right) in
+      let r = recovers x (headerLengthAt x) (found .0) (s .within) (found .1 .walk) in (
+        subst₂ (NoneRefused x) (sym start-found) (sym count-found) (r .unrefused),
+        (λ i. stepped x (start-found i) (count-found i)) ∙ r .same ∙ sym records-found,
+        (λ i. steppedTo x (start-found i) (count-found i)) ∙ r .ends,
+      )
 
 -- Right fields and records.
 module _ (f : File) (r : RightFile f) where
@@ -78,6 +110,13 @@ module _ (c : Call) (p : Plain c) (a : Accepts c) where
   file-is : fileOf c ≡ layout file
   file-is = ap (λ (w : After). take (w .answer .octets) (w .output)) wrote ∙ splice-there (c .output) 0 (layout file) (omega arith)
 
+  room : length (layout file) ≤ length (c .output)
+  unfolding file
+  room =
+      let t = seen .1 in
+      let l = layout-given (c .header) (c .filter) (c .private) (c .records) (c .output) (p .header) (p .filter) (p .private) (p .records) (seen .0) t in
+      omega (arith, ap length l, file-length (c .header) (c .filter) (c .private) (c .records) (tallyOf (c .records) .count), t .room)
+
   stays : writeOf (c .header) (c .filter) (c .private) (c .records) (c .output) .output ≡ fileOf c ++ drop (length (fileOf c)) (c .output)
   unfolding splice
   stays =
@@ -87,6 +126,30 @@ module _ (c : Call) (p : Plain c) (a : Accepts c) where
 
   again : handedBack (fileOf c) (readOf (fileOf c)) ≡ file
   again = ap (λ (l : List ℕ). handedBack l (readOf l)) file-is ∙ back-right file file-right
+
+-- A right file that fits is written.
+module _ (c : Call) (p : Plain c) (f : File) (g : Gives c f) (r : RightFile f) (room : length (layout f) ≤ length (c .output)) where
+  written : writeOf (c .header) (c .filter) (c .private) (c .records) (c .output)
+      ≡ record { answer = record { refusal = 0; octets = length (layout f) }; output = splice (c .output) 0 (layout f) }
+  written =
+      (λ i. writeOf (sym (g .header) i) (sym (g .filter) i) (sym (g .private) i) (sym (g .records) i) (c .output))
+      ∙ write-given (f .header) (f .filter) (f .private) (recordsOctets (f .records)) (c .output) (right-held f r) (r .filter .1) (r .private .1)
+      (subst Octets (sym (g .records)) (p .records)) (f .records) (taken-right f r (c .output) room)
+
+  accepts-right : Accepts c
+  accepts-right = ap (λ (w : After). w .answer .refusal) written
+
+takes : (c : Call) → Plain c → Accepts c ↔ ((f : File) × Gives c f × RightFile f × (length (layout f) ≤ length (c .output)))
+unfolding file
+takes c p = (
+  λ a. (
+    file c p a,
+    record { header = refl; filter = refl; private = refl; records = file-body c p a },
+    file-right c p a,
+    room c p a,
+  ),
+  λ d. accepts-right c p (d .0) (d .1) (d .2) (d .3),
+)
 
 written-read : (c : Call) → Plain c → Accepts c
     → (readOf (fileOf c) .refusal ≡ 0)
@@ -150,7 +213,11 @@ demand-2 =
       described = described;
       handed-back = λ o e. (right-back o e, layout-back o e);
       only-these = back-right;
+      counted = counted;
+      recovered = recovered;
       first-refusal = read-number;
+      taken = takes;
+      written = written;
       written-read = written-read;
       rest-stays = stays;
       read-written = read-written;

@@ -16,8 +16,9 @@ use Rattle.timestamp.specs.Timestamp.{fieldsOf, right, Right, right-bounds, nar
 use Rattle.record.specs.Release.{NarrowRelease, extensionOctets}
 use Rattle.record.specs.Record.{Record, AllRight, recordsOctets}
 use Rattle.record.specs.Format.{walked}
-use Rattle.cdrfile.specs.File.{File, privateOctets, headerLength, fixedOctets, fileOctets, layout, RightFile}
-use Rattle.cdrfile.specs.Ordered.{ordered}
+use Rattle.cdrfile.specs.File.{File, privateOctets, headerLength, fixedOctets, fileOctets, layout}
+use Rattle.roundtrip.specs.Described.{RightFile}
+use Rattle.roundtrip.specs.Ordered.{ordered}
 use Rattle.cdrfile.specs.Laws.{private-none, private-some, private-some-length}
 use Rattle.reader.specs.declared.Part.{Part}
 use Rattle.reader.specs.Places.{headerLengthAt, filterLengthAt, extensionsOf, hasPrivate, privateLengthAt, privatePart, extensionsAt, releaseAt, headerAt}

@@ -20,9 +20,11 @@ use Rattle.record.specs.Order.{narrowed, narrow-true}
 use Rattle.record.specs.Walk.{Walked, records, broken, walkOf, tallied, tallyOf}
 use Rattle.record.specs.Format.{walked, walks}
 use Rattle.cdrfile.specs.declared.Header.{Header}
-use Rattle.cdrfile.specs.File.{File, fileOctets, layout, wrongOrder, RightFile}
+use Rattle.cdrfile.specs.File.{File, fileOctets, layout}
+use Rattle.cdrfile.specs.Order.{wrongOrder}
+use Rattle.roundtrip.specs.Described.{RightFile}
 use Rattle.cdrfile.specs.Laws.{file-length}
-use Rattle.cdrfile.specs.Ordered.{ordered, not-wrong}
+use Rattle.roundtrip.specs.Ordered.{ordered, not-wrong}
 use Rattle.writer.specs.Writer.{After, beyondWidth, wrongValue, neededOctets, verdict, settled, written, writeOf}
 use Rattle.writer.specs.Cases.{Passed, write-done, short}
 use Rattle.roundtrip.specs.Held.{Held}

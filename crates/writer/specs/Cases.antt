@@ -18,7 +18,8 @@ use Rattle.record.specs.Release.{narrowRelease, extensionOctets}
 use Rattle.record.specs.Order.{in-width}
 use Rattle.record.specs.Walk.{tallyOf}
 use Rattle.cdrfile.specs.declared.Header.{Header}
-use Rattle.cdrfile.specs.File.{privateOctets, headerLength, fileOctets, wrongOrder}
+use Rattle.cdrfile.specs.File.{privateOctets, headerLength, fileOctets}
+use Rattle.cdrfile.specs.Order.{wrongOrder}
 use Rattle.cdrfile.specs.Laws.{file-length}
 use Rattle.cdrfile.specs.Needs.{Writable, Layable}
 use Rattle.writer.specs.declared.Written.{Written}

@@ -12,7 +12,8 @@ use Rattle.timestamp.specs.Timestamp.{narrow, right}
 use Rattle.record.specs.Release.{narrowRelease}
 use Rattle.record.specs.Walk.{tallyOf}
 use Rattle.cdrfile.specs.declared.Header.{Header}
-use Rattle.cdrfile.specs.File.{headerLength, fileOctets, wrongOrder}
+use Rattle.cdrfile.specs.File.{headerLength, fileOctets}
+use Rattle.cdrfile.specs.Order.{wrongOrder}
 use Rattle.writer.specs.declared.Written.{Written}
 
 -- 2: a field beyond its width, or an extension that is not 0 below release 7

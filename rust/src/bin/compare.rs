@@ -1,11 +1,15 @@
-//! Compares the second reader and writer with the proved ones, in one process and from a fixed
-//! seed: prints how often each answer came, or the first difference and the file in hexadecimal.
+//! Compares the second reader and writer with the proved ones, those of file names too, in one
+//! process and from a fixed seed: prints how often each answer came, or the first difference and the
+//! file in hexadecimal.
 
+use leveehum::cdrname::{self, Writing};
 use leveehum::dates::{self, Dated};
 use leveehum::fields::Header;
 use leveehum::files::FAMILIES;
 use leveehum::inputs::{self, Input};
-use leveehum::proved::{self, Part, Read, Stamped, Step, Written};
+use leveehum::name::{self, Fields, LONGEST_NAME};
+use leveehum::names;
+use leveehum::proved::{self, NameRead, Part, Read, Stamped, Step, Written};
 use leveehum::random::Random;
 use leveehum::second::{self, Contents, LAST_MINUTE, WIDEST_OFFSET};
 use std::collections::BTreeMap;
@@ -43,7 +47,12 @@ struct Counts {
     dates: [Tally; 2],
     writer: Tally,
     step: Tally,
+    /// Parts of files, by places within the file and forged ones.
+    parts: usize,
+    empty_parts: usize,
     stamp: Tally,
+    name: Tally,
+    name_writer: Tally,
 }
 
 fn main() -> ExitCode {
@@ -59,7 +68,10 @@ fn main() -> ExitCode {
         complete("reader", &counts.reader, &[0, 8, 9, 10, 11, 12, 13]),
         complete("writer", &counts.writer, &[0, 2, 10, 11, 13, 8, 17]),
         complete("step", &counts.step, &[0, 11]),
+        counts.has_parts(),
         complete("timestamp", &counts.stamp, &[0, 4, 2]),
+        complete("name reader", &counts.name, &[0, 20]),
+        complete("name writer", &counts.name_writer, &[0, 20, 21]),
         counts.dates.iter().all(|tally| came(tally, &[0, 10])),
         counts.files >= LEAST_FILES,
     ];
@@ -92,7 +104,8 @@ fn run(counts: &mut Counts) -> Result<(), Difference> {
     compare_stamps(&mut random, &mut counts.stamp).map_err(|what| Difference {
         what,
         octets: Vec::new(),
-    })
+    })?;
+    compare_names(&mut random, counts)
 }
 
 impl Counts {
@@ -104,6 +117,15 @@ impl Counts {
         for (&answer, &times) in tally {
             *self.reader.entry(answer).or_default() += times;
         }
+    }
+
+    /// Prints how many parts were compared; whether there were both kinds.
+    fn has_parts(&self) -> bool {
+        let Self {
+            parts, empty_parts, ..
+        } = self;
+        println!("{:27} with octets {parts}, empty {empty_parts}", "part");
+        *parts > 0 && *empty_parts > 0
     }
 }
 
@@ -142,6 +164,9 @@ fn same<T: PartialEq + Debug>(what: &str, second: T, proved: T) -> Result<(), St
 /// Compares all that both sides say of a file; returns the reader's answer.
 fn compare_file(random: &mut Random, file: &[u8], counts: &mut Counts) -> Result<u8, String> {
     compare_steps(random, file, &mut counts.step)?;
+    for part in places(file.len()) {
+        compare_part(file, part, counts)?;
+    }
     let read = proved::read(file);
     match second::read(file) {
         Err(refusal) => {
@@ -154,6 +179,9 @@ fn compare_file(random: &mut Random, file: &[u8], counts: &mut Counts) -> Result
         }
         Ok(contents) => {
             compare_contents(&contents, &read)?;
+            for part in [read.filter, read.private, read.records] {
+                compare_part(file, part, counts)?;
+            }
             counts.records += walk_both(file, &contents)?;
             write_back(random, file, &contents, &mut counts.writer)?;
             Ok(0)
@@ -181,6 +209,47 @@ fn compare_contents(contents: &Contents, read: &Read) -> Result<(), String> {
         contents.private.clone(),
         read.private.range(),
     )
+}
+
+/// Places in a file of so many octets, about its end, and beyond any file.
+fn places(end: usize) -> [Part; 14] {
+    const MOST: usize = usize::MAX;
+    let places = [
+        [0, 0],
+        [0, end],
+        [0, end + 1],
+        [1, end],
+        [1, end.saturating_sub(1)],
+        [end / 2, end / 3],
+        [end.saturating_sub(1), 1],
+        [end, 0],
+        [end, 1],
+        [end + 1, 0],
+        [1 << 32, 1],
+        [1, MOST],
+        [MOST, 1],
+        [MOST, MOST],
+    ];
+    places.map(|[start, octets]| Part { start, octets })
+}
+
+/// A part has the place that was asked for; one that is empty or not within the file has none.
+fn compare_part(file: &[u8], part: Part, counts: &mut Counts) -> Result<(), String> {
+    let end = part.start.checked_add(part.octets);
+    let octets = end.and_then(|end| file.get(part.start..end));
+    let expected = match octets {
+        None | Some([]) => Part::default(),
+        Some(_) => part,
+    };
+    match expected.octets {
+        0 => counts.empty_parts += 1,
+        _ => counts.parts += 1,
+    }
+    let answer = proved::part_of(file, part);
+    if expected == answer {
+        return Ok(());
+    }
+    same(&format!("part {part:?}"), expected, answer)
 }
 
 /// Steps from each record's end to the next, on both sides; returns the number of records.
@@ -241,12 +310,15 @@ fn compare_step(file: &[u8], at: usize) -> Result<Option<usize>, String> {
         },
         _ => Part::default(),
     };
+    // The same step is asked for by the file's part that begins there.
+    let by_part = file.get(at..).map_or(step, proved::step);
     // A million steps: the words for a difference are made only when there is one.
-    if (expected, expected_body) == (step, body) {
+    if (expected, expected_body) == (step, body) && step == by_part {
         return Ok((step.refusal == 0).then_some(step.header + step.body));
     }
     same(&format!("step at {at}"), expected, step)?;
     same(&format!("body at {at}"), expected_body, body)?;
+    same(&format!("step of the part at {at}"), expected, by_part)?;
     Ok(None)
 }
 
@@ -422,4 +494,52 @@ fn compare_stamp(minutes: u32, bias: u32, tally: &mut Tally) -> Result<(), Strin
     }
     let what = format!("timestamp of minute {minutes}, bias {bias}");
     same(&what, expected, stamped)
+}
+
+/// Both readers and both writers of file names.
+fn compare_names(random: &mut Random, counts: &mut Counts) -> Result<(), Difference> {
+    for names::Case { line, .. } in names::cases(random) {
+        let compared = match &line[..] {
+            [b'N', b' ', name @ ..] => compare_name(name, &mut counts.name),
+            [b'W', b' ', words @ ..] => match cdrname::writing(words) {
+                Some(asked) => compare_name_writer(&asked, &mut counts.name_writer),
+                None => Err("a line of no meaning".to_owned()),
+            },
+            _ => Err("a line of no meaning".to_owned()),
+        };
+        compared.map_err(|what| Difference {
+            what: format!("{what}\n{}", line.escape_ascii()),
+            octets: line,
+        })?;
+    }
+    Ok(())
+}
+
+fn compare_name(name: &[u8], tally: &mut Tally) -> Result<(), String> {
+    let expected = match name::read(name) {
+        Err(refusal) => NameRead {
+            refusal,
+            ..NameRead::default()
+        },
+        Ok(read) => NameRead {
+            refusal: 0,
+            node: read.node.len(),
+            private: read.private.map_or(0, str::len),
+            fields: (&Fields::from(&read)).into(),
+        },
+    };
+    *tally.entry(expected.refusal).or_default() += 1;
+    same("name", expected, proved::name_read(name))
+}
+
+fn compare_name_writer(asked: &Writing, tally: &mut Tally) -> Result<(), String> {
+    // No name reaches beyond this, so a longer output makes no difference.
+    let mut expected_output = vec![0xA5; asked.room.min(LONGEST_NAME + 8)];
+    let mut output = expected_output.clone();
+    let answer = name::write(&asked.fields, &mut expected_output);
+    let (refusal, octets) = answer.map_or_else(|refusal| (refusal, 0), |octets| (0, octets));
+    *tally.entry(refusal).or_default() += 1;
+    let written = proved::name_write(&asked.fields, &mut output);
+    same("name writer: answer", Written { refusal, octets }, written)?;
+    same("name writer: output", expected_output, output)
 }

@@ -8,7 +8,7 @@ use native.Mathlib.Omega.{arith}
 use lib.ListN.{length}
 use Rattle.record.specs.declared.Tallied.{Tallied}
 use Rattle.record.specs.Walk.{tallyOf}
-use Rattle.cdrfile.specs.File.{wrongOrder}
+use Rattle.cdrfile.specs.Order.{wrongOrder}
 use Rattle.writer.specs.declared.Written.{Written}
 use Rattle.writer.specs.Writer.{after, beyondWidth, wrongValue, neededOctets}
 use Rattle.writer.specs.Cases.{answered, Passed, write-beyond, write-wrong, write-cut, write-disordered, write-long, write-needing, write-done, written-made, short, header-most, layable}

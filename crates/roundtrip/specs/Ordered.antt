@@ -10,7 +10,8 @@ use Rattle.record.specs.declared.Release.{Release}
 use Rattle.record.specs.Release.{rank}
 use Rattle.record.specs.Record.{Record, highest, lowest}
 use Rattle.record.specs.Walk.{records, tallied}
-use Rattle.cdrfile.specs.File.{Ordered, wrongOrder}
+use Rattle.cdrfile.specs.Order.{wrongOrder}
+use Rattle.roundtrip.specs.Described.{Ordered}
 
 module _ (high low : Release) where
   -- with records the second case of the test stands

@@ -3,12 +3,12 @@
 //! The plain manager is timed twice: as it is, owning its state, and *judged*, asking at each event
 //! whether its state is within the bounds of refusal 18, as a manager must that is handed one.
 
-mod proved;
-
 use leveehum::fields::Release;
 use leveehum::manager::{self, Arrival, Manager};
+use leveehum::proved;
 use leveehum::random::Random;
 use leveehum::settings::{self, Node, Route};
+use leveehum::states::{Answer, State};
 use leveehum::timing::{best_of_both, RUNS};
 use std::hint::black_box;
 use std::process::ExitCode;
@@ -71,8 +71,8 @@ impl<M> Desk<M> {
     }
 }
 
-impl Desk<proved::Manager> {
-    fn receive(&mut self, arrival: &Arrival) -> proved::Answer {
+impl Desk<State> {
+    fn receive(&mut self, arrival: &Arrival) -> Answer {
         let Desk {
             manager,
             store,
@@ -104,7 +104,8 @@ fn run(case: &Case) -> Result<(), String> {
     let filters = filters(case);
     let octets = octets(case, &filters);
     let refused = |refusal: u8| format!("settings refused with {refusal}");
-    let mut proved = Desk::new(proved::load(&octets).map_err(refused)?, case);
+    let fresh = proved::load(&octets).accepted();
+    let mut proved = Desk::new(fresh.map_err(refused)?, case);
     let mut plain = Desk::new(Manager::load(&octets).map_err(refused)?, case);
     let body = Random::new(1).octets(BODY);
     let arrivals: Vec<Arrival> = filters.iter().map(|key| arrival(key, &body)).collect();
@@ -185,13 +186,13 @@ fn arrival<'a>(key: &'a [u8], body: &'a [u8]) -> Arrival<'a> {
 
 /// Lets both take the same records: answers, stores and outputs must be the same.
 fn compare(
-    proved: &mut Desk<proved::Manager>,
+    proved: &mut Desk<State>,
     plain: &mut Desk<Manager>,
     arrivals: &[Arrival],
 ) -> Result<(), String> {
     for (index, arrival) in arrivals.iter().cycle().take(COMPARED).enumerate() {
         let answer = proved.receive(arrival);
-        let expected = numbers(plain.receive(arrival));
+        let expected = Answer::from(plain.receive(arrival));
         if answer != expected {
             return Err(format!(
                 "record {index}: plain {expected:?}, proved {answer:?}"
@@ -204,25 +205,6 @@ fn compare(
     match (&proved.store, &proved.output) == (&plain.store, &plain.output) {
         true => Ok(()),
         false => Err("the stores or the outputs differ".to_owned()),
-    }
-}
-
-fn numbers(answer: manager::Answer) -> proved::Answer {
-    match answer {
-        Err((refusal, octets)) => proved::Answer {
-            refusal,
-            outcome: 0,
-            route: 0,
-            files: 0,
-            octets,
-        },
-        Ok(accepted) => proved::Answer {
-            refusal: 0,
-            outcome: accepted.outcome as u8,
-            route: accepted.route,
-            files: accepted.files,
-            octets: accepted.octets,
-        },
     }
 }
 

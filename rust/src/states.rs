@@ -1,0 +1,142 @@
+//! A manager's state by value and the answer to an event, laid out as the proved library has them.
+//! Every field has room for more than is right: a state may be handed over by anyone.
+
+#![forbid(unsafe_code)]
+
+use crate::fields::Release;
+use crate::manager::{self, LONGEST_FILTER, MOST_ROUTES};
+use crate::second::{EXTENDED, FIXED};
+use crate::settings;
+
+/// A route's settings; `octets` of the filter count.
+#[repr(C)]
+#[derive(Clone, Copy, Debug, Default, PartialEq, Eq)]
+pub struct RouteSettings {
+    pub filter: [u8; LONGEST_FILTER],
+    pub octets: u8,
+    /// The most octets of a file.
+    pub limit: u32,
+    /// The most minutes that a file is open, and the most records that it has; 0 is no limit.
+    pub age: u32,
+    pub most: u32,
+    /// 1 for one release and version in a file.
+    pub flag: u8,
+    /// The release and version of a file without records.
+    pub release: Release,
+}
+
+/// An open file; all zeros where one was closed.
+#[repr(C)]
+#[derive(Clone, Copy, Debug, Default, PartialEq, Eq)]
+pub struct OpenFile {
+    pub sequence: u32,
+    pub opened: u32,
+    pub appended: u32,
+    pub high: Release,
+    pub low: Release,
+    pub format: u8,
+    /// The number of its records, and their octets.
+    pub count: u32,
+    pub octets: u32,
+}
+
+#[repr(C)]
+#[derive(Clone, Copy, Debug, Default, PartialEq, Eq)]
+pub struct Route {
+    pub settings: RouteSettings,
+    /// The sequence number of the file that it opens next.
+    pub next: u32,
+    /// Known losses and the note since its last file closed.
+    pub losses: u32,
+    pub note: bool,
+    pub open: bool,
+    /// The open file; with none open it says nothing.
+    pub file: OpenFile,
+}
+
+#[repr(C)]
+#[derive(Clone, Copy, Debug, Default, PartialEq, Eq)]
+pub struct State {
+    pub routes: [Route; MOST_ROUTES],
+    /// How many of the routes are configured.
+    pub count: u8,
+    pub address: [u8; 16],
+    /// The UTC offset plus 1,439.
+    pub bias: u32,
+    /// The effective time of the last accepted event.
+    pub last: u32,
+    pub unrouted: u32,
+}
+
+/// The answer to an event: refused, it is the number and zeros elsewhere but for 17.
+#[repr(C)]
+#[derive(Clone, Copy, Debug, Default, PartialEq, Eq)]
+pub struct Answer {
+    pub refusal: u8,
+    pub outcome: u8,
+    pub route: u8,
+    pub files: u8,
+    pub octets: usize,
+}
+
+impl From<manager::Answer> for Answer {
+    fn from(answer: manager::Answer) -> Self {
+        match answer {
+            Err((refusal, octets)) => Self {
+                refusal,
+                octets,
+                ..Self::default()
+            },
+            Ok(accepted) => Self {
+                refusal: 0,
+                outcome: accepted.outcome as u8,
+                route: accepted.route,
+                files: accepted.files,
+                octets: accepted.octets,
+            },
+        }
+    }
+}
+
+impl RouteSettings {
+    /// Octets of a file header of this route with these releases.
+    pub fn header_octets(&self, high: Release, low: Release) -> u32 {
+        let extension = |of: Release| u32::from(of.release == EXTENDED);
+        FIXED as u32 + u32::from(self.octets) + extension(high) + extension(low)
+    }
+}
+
+impl State {
+    /// The configured routes, as far as there are such.
+    pub fn configured(&self) -> &[Route] {
+        &self.routes[..usize::from(self.count).min(MOST_ROUTES)]
+    }
+
+    /// The settings that it has, laid out: those of any state within its bounds can be.
+    pub fn settings(&self) -> Vec<u8> {
+        let node = settings::Node {
+            address: self.address,
+            bias: self.bias as u16,
+        };
+        let route = |route: &Route| {
+            let RouteSettings { filter, octets, .. } = route.settings;
+            settings::Route {
+                filter: filter.iter().take(octets.into()).copied().collect(),
+                limit: route.settings.limit,
+                age: route.settings.age,
+                most: route.settings.most,
+                flag: route.settings.flag,
+                release: route.settings.release,
+                first: route.next,
+            }
+        };
+        let routes: Vec<_> = self.configured().iter().map(route).collect();
+        settings::lay(node, &routes)
+    }
+
+    /// The octets of all regions of the store.
+    pub fn regions(&self) -> u64 {
+        let limits = self.configured().iter();
+        limits.map(|route| u64::from(route.settings.limit)).sum()
+    }
+}

@@ -1,0 +1,368 @@
+//! Events on forged states: each with a store and an output, and what the plain manager makes of
+//! it.
+
+#![forbid(unsafe_code)]
+
+use crate::bounds;
+use crate::draft::release;
+use crate::fields::Release;
+use crate::manager::{Arrival, Manager, LONGEST_FILTER};
+use crate::random::Random;
+use crate::second::{self, LAST_MINUTE, RESERVED};
+use crate::states::{Answer, Route, State};
+
+/// Stores beyond this are slow to make, so that most are made too short.
+const LONG_STORE: u64 = 65_536;
+
+/// What RECEIVE carries beside the time.
+#[derive(Clone, Debug, PartialEq, Eq)]
+pub struct Received {
+    pub mark: u32,
+    pub release: u32,
+    pub version: u32,
+    pub extension: u8,
+    pub format: u32,
+    pub ts: u32,
+    pub key: Vec<u8>,
+    pub body: Vec<u8>,
+}
+
+impl Received {
+    pub fn arrival(&self) -> Arrival<'_> {
+        Arrival {
+            mark: self.mark,
+            key: &self.key,
+            release: self.release,
+            version: self.version,
+            extension: self.extension,
+            format: self.format,
+            ts: self.ts,
+            body: &self.body,
+        }
+    }
+}
+
+#[derive(Clone, Debug, PartialEq, Eq)]
+pub enum Event {
+    Open { route: u32 },
+    Close { route: u32, reason: u32 },
+    Tick,
+    Receive(Received),
+}
+
+/// An event at a time on a state, with the store and the output that it is lent.
+#[derive(Clone, Debug, PartialEq, Eq)]
+pub struct Trial {
+    pub state: State,
+    pub store: Vec<u8>,
+    pub output: Vec<u8>,
+    pub time: u32,
+    pub event: Event,
+}
+
+/// What an event leaves.
+#[derive(Clone, Debug, PartialEq, Eq)]
+pub struct After {
+    pub answer: Answer,
+    pub state: State,
+    pub store: Vec<u8>,
+    pub output: Vec<u8>,
+}
+
+impl Trial {
+    /// All four events on a state.
+    pub fn all(random: &mut Random, state: &State) -> [Self; 4] {
+        let events = [
+            Event::Open {
+                route: route(random, state),
+            },
+            Event::Close {
+                route: route(random, state),
+                reason: reason(random),
+            },
+            Event::Tick,
+            Event::Receive(received(random, state)),
+        ];
+        events.map(|event| {
+            let octets = store_octets(random, state);
+            let mut trial = Self {
+                state: *state,
+                store: background(random, octets),
+                output: Vec::new(),
+                time: time(random, state),
+                event,
+            };
+            let octets = output_octets(random, trial.expected().answer);
+            trial.output = background(random, octets);
+            trial
+        })
+    }
+
+    /// What the event must leave: 18 and all unchanged if the state is beyond its bounds, and else
+    /// what the plain manager in this state leaves.
+    pub fn expected(&self) -> After {
+        let mut after = After {
+            answer: Answer {
+                refusal: 18,
+                ..Answer::default()
+            },
+            state: self.state,
+            store: self.store.clone(),
+            output: self.output.clone(),
+        };
+        if bounds::broken(&self.state).is_empty() {
+            self.run_plain(&mut after);
+        }
+        after
+    }
+
+    fn run_plain(&self, after: &mut After) {
+        let mut manager = Manager::from_state(&self.state);
+        let (store, output, time) = (&mut after.store, &mut after.output, self.time);
+        let answer = match &self.event {
+            Event::Open { route } => manager.open(store, time, *route),
+            Event::Close { route, reason } => manager.close(store, output, time, *route, *reason),
+            Event::Tick => manager.tick(store, output, time),
+            Event::Receive(received) => manager.receive(store, output, time, &received.arrival()),
+        };
+        after.answer = answer.into();
+        after.state = manager.state_after(&self.state);
+    }
+
+    /// Whether an open file has other octets in the store than so many records: no list of events
+    /// leaves such a state behind. A store that is too short does not tell.
+    pub fn is_unreachable(&self) -> bool {
+        if (self.store.len() as u64) < self.state.regions() {
+            return false;
+        }
+        let mut region = 0;
+        self.state.configured().iter().any(|route| {
+            let start = region;
+            region += route.settings.limit as usize;
+            if !route.open {
+                return false;
+            }
+            let end = start + route.file.octets as usize;
+            let records = self.store.get(start..end);
+            records.and_then(count_of) != Some(route.file.count)
+        })
+    }
+}
+
+/// How many records stand here one behind another, if nothing else does.
+fn count_of(records: &[u8]) -> Option<u32> {
+    let (mut at, mut count) = (0, 0);
+    while at < records.len() {
+        at += second::step(records, at).ok()?.octets();
+        count += 1;
+    }
+    Some(count)
+}
+
+/// What a store or an output holds before the event.
+fn background(random: &mut Random, octets: usize) -> Vec<u8> {
+    match octets {
+        0..=8_192 => random.octets(octets),
+        _ => vec![random.octet(); octets],
+    }
+}
+
+/// As long as all regions, longer, or too short.
+fn store_octets(random: &mut Random, state: &State) -> usize {
+    let regions = state.regions();
+    if regions > LONG_STORE && !(regions < 1 << 24 && random.once_in(20)) {
+        return random.below(1_000);
+    }
+    let regions = regions as usize;
+    match random.below(16) {
+        0 => regions.saturating_sub(1),
+        1 => random.below(regions + 1),
+        2 | 3 => regions + random.between(1, 40),
+        _ => regions,
+    }
+}
+
+/// About as long as what an event needs, which it answered when it was lent no output.
+fn output_octets(random: &mut Random, answer: Answer) -> usize {
+    let needed = match answer.refusal {
+        17 => answer.octets,
+        _ => random.below(100),
+    };
+    match random.below(8) {
+        0 => 0,
+        1 => needed.saturating_sub(1),
+        2 => random.below(needed + 1),
+        3 | 4 => needed + random.between(1, 40),
+        _ => needed,
+    }
+}
+
+/// A route that is configured, if one is.
+fn some_route<'a>(random: &mut Random, state: &'a State) -> &'a Route {
+    let configured = state.configured();
+    match configured.len() {
+        0 => &state.routes[0],
+        count => &configured[random.below(count)],
+    }
+}
+
+/// A time: right ones about the last time and about the minute at which a file is due.
+fn time(random: &mut Random, state: &State) -> u32 {
+    let route = some_route(random, state);
+    let due = route.file.opened.wrapping_add(route.settings.age);
+    let any = random.between(0, LAST_MINUTE as usize) as u32;
+    let [late, later] = [LAST_MINUTE + 1, random.word() as u32];
+    let time = match random.below(16) {
+        0 => return random.pick(&[late, late, u32::MAX, 1 << 31, later]),
+        1 => 0,
+        2 => any,
+        3 => LAST_MINUTE,
+        4 => state.last,
+        5 => state.last.saturating_sub(random.below(20) as u32),
+        6..=9 => state.last.saturating_add(random.below(20) as u32),
+        _ => due.wrapping_sub(random.below(3) as u32).wrapping_add(1),
+    };
+    time.min(LAST_MINUTE)
+}
+
+fn route(random: &mut Random, state: &State) -> u32 {
+    let count = u32::from(state.count);
+    let at = random.below(state.configured().len().max(1)) as u32;
+    match random.below(16) {
+        0 => random.pick(&[count, 7, 8, 255, 256, 256 + at, 1 << 31 | at, u32::MAX]),
+        _ => at,
+    }
+}
+
+fn reason(random: &mut Random) -> u32 {
+    let any = random.word() as u32;
+    match random.below(16) {
+        0 => random.pick(&[1, 2, 3, 5, 127, 132, 255, 256, 260, 384, u32::MAX, any]),
+        _ => random.pick(&[0, 4, 128, 129, 130, 131]),
+    }
+}
+
+/// A record for one of the routes, with fields like those of the file there and a body that often
+/// is about as long as fits.
+fn received(random: &mut Random, state: &State) -> Received {
+    let route = *some_route(random, state);
+    let any = release(random, 2);
+    let file = route.file;
+    let release = random.pick(&[file.high, file.low, route.settings.release, any, any]);
+    let format = match random.below(4) {
+        0 => random.below(8) as u32,
+        _ => file.format.into(),
+    };
+    let mut received = Received {
+        mark: random.pick(&[0, 0, 0, 0, 0, 0, 1, 1, 2]),
+        release: release.release.into(),
+        version: release.version.into(),
+        extension: release.extension,
+        format,
+        ts: random.below(32) as u32,
+        key: key(random, &route),
+        body: Vec::new(),
+    };
+    let octets = body_octets(random, &route, release);
+    received.body = background(random, octets);
+    if random.once_in(12) {
+        spoil(random, &mut received);
+    }
+    received
+}
+
+/// Makes one field wrong, also such that it is right if its upper bits are lost.
+fn spoil(random: &mut Random, received: &mut Received) {
+    match random.below(7) {
+        0 => received.mark = random.pick(&[3, 4, 256, 258, u32::MAX]),
+        1 => received.release = random.pick(&[8, 15, 256 + 4, u32::MAX]),
+        2 => received.version = random.pick(&[32, 63, 256 + 4, u32::MAX]),
+        3 => received.format = random.pick(&[8, 15, 256 + 4, u32::MAX]),
+        4 => received.ts = random.pick(&[32, 63, 256 + 4, u32::MAX]),
+        5 => received.extension = random.octet() | 1,
+        _ => received.key.resize(random.pick(&[21, 21, 22, 276]), 0),
+    }
+}
+
+/// A key that begins with the route's filter, mostly.
+fn key(random: &mut Random, route: &Route) -> Vec<u8> {
+    let octets = usize::from(route.settings.octets).min(LONGEST_FILTER);
+    let mut key = route.settings.filter[..octets].to_vec();
+    match random.below(10) {
+        0 => key.truncate(random.below(octets + 1)),
+        1 => key = (0..octets).map(|_| random.below(2) as u8).collect(),
+        2..=4 => {}
+        _ => {
+            let more = random.below(LONGEST_FILTER + 1 - octets);
+            key.extend((0..more).map(|_| random.below(2) as u8));
+        }
+    }
+    key
+}
+
+/// A few octets, or about as many as a file has room for: one with this record alone, or the open
+/// one with this record added. Rarely about as many as a record may have.
+fn body_octets(random: &mut Random, route: &Route, release: Release) -> usize {
+    let Route { settings, file, .. } = route;
+    let (high, low) = (file.high.max(release), file.low.min(release));
+    let alone = i64::from(settings.header_octets(release, release));
+    let joined = i64::from(settings.header_octets(high, low)) + i64::from(file.octets);
+    let header = 4 + i64::from(release.release == second::EXTENDED);
+    let before = match random.below(200) {
+        0 => return random.between(RESERVED - 2, RESERVED + 1),
+        1..=40 => alone,
+        41..=100 => joined,
+        _ => return random.below(16),
+    };
+    let room = i64::from(settings.limit) - before - header;
+    let room = room.clamp(1, RESERVED as i64 - 1) as usize;
+    random.between(room - 1, room + 1)
+}
+
+#[cfg(test)]
+mod tests {
+    use super::*;
+    use crate::faults::FAULTS;
+    use crate::forge;
+
+    #[test]
+    fn a_state_beyond_its_bounds_is_refused_and_all_stays() {
+        let random = &mut Random::new(7);
+        for fault in &FAULTS {
+            let [past, within] = fault.pair(random);
+            for trial in Trial::all(random, &past) {
+                let after = trial.expected();
+                let answer = Answer {
+                    refusal: 18,
+                    ..Answer::default()
+                };
+                assert_eq!(after.answer, answer, "{}", fault.name);
+                assert_eq!(after.state, trial.state);
+                assert_eq!((after.store, after.output), (trial.store, trial.output));
+            }
+            for trial in Trial::all(random, &within) {
+                assert_ne!(trial.expected().answer.refusal, 18, "{}", fault.name);
+            }
+        }
+    }
+
+    #[test]
+    fn events_reach_what_they_leave_and_not_what_is_forged() {
+        let random = &mut Random::new(8);
+        let settings = forge::right(random, 3).settings();
+        let mut state = Manager::load(&settings).unwrap().state();
+        let mut store = vec![0; state.regions() as usize];
+        for _ in 0..100 {
+            for mut trial in Trial::all(random, &state) {
+                (trial.state, trial.store) = (state, store);
+                assert!(!trial.is_unreachable());
+                (state, store) = (trial.expected().state, trial.expected().store);
+            }
+        }
+        let mut trial = Trial::all(random, &state)[0].clone();
+        trial.store = store;
+        let route = &mut trial.state.routes[0];
+        (route.open, route.file.count, route.file.octets) = (true, 1, 3);
+        assert!(trial.is_unreachable());
+    }
+}
