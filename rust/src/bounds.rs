@@ -14,9 +14,7 @@ type Condition<T> = (&'static str, fn(&T) -> bool);
 
 const OF_STATE: [Condition<State>; 5] = [
     ("one route or more", |s| s.count >= 1),
-    ("eight routes or fewer", |s| {
-        usize::from(s.count) <= MOST_ROUTES
-    }),
+    ("eight routes or fewer", |s| s.count <= MOST_ROUTES as u32),
     ("offset in range", |s| {
         i64::from(s.bias) <= 2 * WIDEST_OFFSET
     }),
@@ -65,7 +63,7 @@ const OF_FILE: [Condition<Held>; 17] = [
         h.file.opened <= h.file.appended
     }),
     ("last append not after last time", |h| {
-        h.file.appended <= h.last
+        h.file.appended.get() <= h.last
     }),
     ("low not above high", |h| h.file.low <= h.file.high),
     ("low is high with flag 1", |h| {
@@ -149,6 +147,7 @@ fn add_broken<T>(names: &mut Vec<&'static str>, conditions: &[Condition<T>], of:
 #[cfg(test)]
 mod tests {
     use super::*;
+    use crate::states::Minute;
 
     /// One route with one record, all by hand.
     fn right() -> State {
@@ -161,7 +160,7 @@ mod tests {
         let route = &mut state.routes[0];
         route.open = true;
         route.settings.limit = 128;
-        route.file.appended = 10;
+        route.file.appended = Minute::lower(10);
         (route.file.count, route.file.octets) = (1, 4);
         state
     }
@@ -191,9 +190,12 @@ mod tests {
         state.routes[0].file.count = 1 << 30;
         assert_eq!(broken(&state), ["four octets or more a record"]);
         let mut state = right();
-        state.count = 255;
         state.routes[1..].fill(Route::default());
-        assert!(broken(&state).contains(&"eight routes or fewer"));
+        // The last ones are 1 in their lowest octet.
+        for count in [9, 255, 1 << 8 | 1, 1 << 31 | 1] {
+            state.count = count;
+            assert!(broken(&state).contains(&"eight routes or fewer"));
+        }
     }
 
     #[test]
@@ -203,7 +205,7 @@ mod tests {
         assert_eq!(broken(&state), ["four octets or more a record"]);
         state.routes[0].file.count = 0;
         assert_eq!(broken(&state), ["empty: last append is the opening"]);
-        state.routes[0].file.opened = 10;
+        state.routes[0].file.opened = Minute::lower(10);
         assert!(broken(&state).is_empty());
         state.routes[0].file.octets = 1;
         assert_eq!(broken(&state), ["empty: no octets"]);

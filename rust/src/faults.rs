@@ -9,7 +9,7 @@ use crate::forge::{empty, fill, right};
 use crate::manager::{LONGEST_FILTER, MOST_ROUTES};
 use crate::random::Random;
 use crate::second::{LAST_MINUTE, LONGEST_FILE};
-use crate::states::{Route, State};
+use crate::states::{Minute, Route, State};
 
 /// Octets by which a size limit is raised where the header may have grown: by a filter of any
 /// length that an octet can say, and by two extensions.
@@ -47,18 +47,23 @@ enum Side {
 impl Side {
     /// The greatest value that may be, or one beyond it, mostly by one.
     fn above(self, random: &mut Random, edge: u32) -> u32 {
-        let far = random.between(edge as usize + 1, u32::MAX as usize) as u32;
-        match self {
-            Within => edge,
-            Past => random.pick(&[edge + 1, edge + 1, edge + 1, far, u32::MAX]),
-        }
+        self.above_up_to(random, edge, u32::MAX)
     }
 
     fn above_octet(self, random: &mut Random, edge: u8) -> u8 {
-        let far = random.between(edge.into(), 254) as u8 + 1;
+        self.above_up_to(random, edge.into(), u8::MAX.into()) as u8
+    }
+
+    fn above_minute(self, random: &mut Random, edge: u32) -> Minute {
+        Minute::lower(self.above_up_to(random, edge, Minute::MAX.get()))
+    }
+
+    /// As `above`; `end` is the greatest that the field can hold.
+    fn above_up_to(self, random: &mut Random, edge: u32, end: u32) -> u32 {
+        let far = random.between(edge as usize + 1, end as usize) as u32;
         match self {
             Within => edge,
-            Past => random.pick(&[edge + 1, edge + 1, edge + 1, far, 255]),
+            Past => random.pick(&[edge + 1, edge + 1, edge + 1, far, end]),
         }
     }
 
@@ -166,7 +171,10 @@ pub const FAULTS: [Fault; 30] = [
         put: |random, state, _, side| {
             // The neighbour's are all right.
             *state = right(random, MOST_ROUTES);
-            state.count = side.above_octet(random, 8);
+            // The last ones are right in their lowest octet.
+            let past = Past.above(random, 8);
+            let past = random.pick(&[past, past, past, 1 << 8 | 8, 1 << 31 | 1]);
+            state.count = side.pick(8, past);
         },
     },
     Fault {
@@ -183,7 +191,7 @@ pub const FAULTS: [Fault; 30] = [
         name: "no two filters equal",
         of: Of::Settings,
         put: |random, state, at, side| {
-            let count = usize::from(state.count);
+            let count = state.count as usize;
             let other = (at + random.between(1, count - 1)) % count;
             set_new_filter(random, &mut state.routes[other]);
             let twin = state.routes[other].settings;
@@ -279,7 +287,7 @@ pub const FAULTS: [Fault; 30] = [
         of: Of::File,
         put: |random, state, at, side| {
             let file = &mut filled(random, state, at).file;
-            file.opened = side.above(random, file.appended);
+            file.opened = side.above_minute(random, file.appended.get());
         },
     },
     Fault {
@@ -287,7 +295,7 @@ pub const FAULTS: [Fault; 30] = [
         of: Of::File,
         put: |random, state, at, side| {
             let last = state.last;
-            filled(random, state, at).file.appended = side.above(random, last);
+            filled(random, state, at).file.appended = side.above_minute(random, last);
         },
     },
     Fault {
@@ -408,7 +416,8 @@ pub const FAULTS: [Fault; 30] = [
             state.last = state.last.max(1);
             let last = state.last;
             let file = &mut emptied(random, state, at).file;
-            (file.opened, file.appended) = (side.pick(last, last - 1), last);
+            file.opened = Minute::lower(side.pick(last, last - 1));
+            file.appended = Minute::lower(last);
         },
     },
     Fault {

@@ -1,5 +1,6 @@
 //! Forged states of a manager, such as no list of events need reach: random ones within the bounds
-//! of refusal 18, some with a field changed, and some of which nothing is right.
+//! of refusal 18, some with a field or a bit changed, and some of which nothing is right; and words
+//! of which each is any.
 
 #![forbid(unsafe_code)]
 
@@ -8,7 +9,8 @@ use crate::fields::Release;
 use crate::manager::{LONGEST_FILTER, MOST_ROUTES};
 use crate::random::Random;
 use crate::second::{LAST_MINUTE, WIDEST_OFFSET};
-use crate::states::{OpenFile, Route, RouteSettings, State};
+use crate::states::{Minute, OpenFile, Route, RouteSettings, State};
+use crate::words::{Words, WORDS};
 
 /// Any number of routes that may be configured.
 pub fn count(random: &mut Random) -> usize {
@@ -23,7 +25,7 @@ pub fn right(random: &mut Random, count: usize) -> State {
         last: random.pick(&[0, 1, 1_000, LAST_MINUTE, any, any]),
         ..any_state(random)
     };
-    state.count = count as u8;
+    state.count = count as u32;
     let bias = random.below(2 * WIDEST_OFFSET as usize + 1) as u32;
     state.bias = random.pick(&[0, 1_439, 2_878, bias]);
     for (at, filter) in filters(random, count).iter().enumerate() {
@@ -41,7 +43,7 @@ pub fn right(random: &mut Random, count: usize) -> State {
 
 /// Gives all configured routes open files that are soon due.
 fn make_due(random: &mut Random, state: &mut State) {
-    let count = usize::from(state.count);
+    let count = state.count as usize;
     for route in &mut state.routes[..count] {
         route.settings.age = random.between(1, 3) as u32;
         if !route.open {
@@ -52,15 +54,19 @@ fn make_due(random: &mut Random, state: &mut State) {
 
 /// A state of which nothing is right but by chance.
 pub fn any(random: &mut Random) -> State {
-    let (count, octet) = (random.below(MOST_ROUTES + 2) as u8, random.octet());
     State {
         routes: [0; MOST_ROUTES].map(|_| any_route(random)),
-        count: random.pick(&[count, count, count, octet]),
+        count: any_count(random),
         ..any_state(random)
     }
 }
 
-/// A state within its bounds but for one field, which has any value.
+/// Words of which each is any.
+pub fn any_words(random: &mut Random) -> Words {
+    [0; WORDS].map(|_| random.word() as u32)
+}
+
+/// A state within its bounds but for one field, which has any value, or for one bit of its words.
 pub fn changed(random: &mut Random) -> State {
     let count = count(random);
     let mut state = right(random, count);
@@ -68,8 +74,8 @@ pub fn changed(random: &mut Random) -> State {
     let route = any_route(random);
     let place = &mut state.routes[random.below(count)];
     let (settings, file) = (&mut place.settings, &mut place.file);
-    match random.below(22) {
-        0 => state.count = random.octet() % 12,
+    match random.below(24) {
+        0 => state.count = any_count(random),
         1 => state.bias = other.bias,
         2 => state.last = other.last,
         3 => settings.octets = random.octet() % 24,
@@ -90,9 +96,17 @@ pub fn changed(random: &mut Random) -> State {
         18 => file.format = random.octet() % 10,
         19 => file.count = random.pick(&[0, 1, file.count.wrapping_add(1), route.file.count]),
         20 => file.octets = random.pick(&[0, 4, file.octets.wrapping_add(1), route.file.octets]),
-        _ => std::mem::swap(&mut file.high, &mut file.low),
+        21 => std::mem::swap(&mut file.high, &mut file.low),
+        _ => state = with_other_bit(random, &state),
     }
     state
+}
+
+/// The state of the same words but for one bit.
+fn with_other_bit(random: &mut Random, state: &State) -> State {
+    let mut words = state.words();
+    words[random.below(WORDS)] ^= 1 << random.below(32);
+    State::from_words(&words)
 }
 
 /// Any number of 32 bits, often small or at the end.
@@ -100,6 +114,12 @@ fn number(random: &mut Random) -> u32 {
     let any = random.word() as u32;
     let small = random.below(1_000) as u32;
     random.pick(&[0, 1, 1 << 30, 1 << 31, u32::MAX, small, small, any])
+}
+
+/// A number of routes: about those that may be, also in its lowest octet alone, or any.
+fn any_count(random: &mut Random) -> u32 {
+    let (few, any) = (random.below(MOST_ROUTES + 2) as u32, number(random));
+    random.pick(&[few, few, few, few, 1 << 8 | few, any])
 }
 
 /// A loss counter: about where the indicator changes, at its end, and one below it.
@@ -118,8 +138,8 @@ fn any_release(random: &mut Random) -> Release {
 fn any_file(random: &mut Random) -> OpenFile {
     OpenFile {
         sequence: number(random),
-        opened: number(random),
-        appended: number(random),
+        opened: Minute::lower(number(random)),
+        appended: Minute::lower(number(random)),
         high: any_release(random),
         low: any_release(random),
         format: random.octet(),
@@ -209,7 +229,7 @@ fn right_route(random: &mut Random, last: u32, filter: &[u8]) -> Route {
 
 /// Opens a file without records.
 pub(crate) fn empty(random: &mut Random, route: &mut Route, last: u32) {
-    let opened = random.pick(&[last, last / 2, last.saturating_sub(10)]);
+    let opened = Minute::lower(random.pick(&[last, last / 2, last.saturating_sub(10)]));
     route.open = true;
     route.file = OpenFile {
         opened,
@@ -242,10 +262,11 @@ pub(crate) fn fill(random: &mut Random, route: &mut Route, last: u32) {
     };
     let count = random.between(1, most as usize) as u32;
     let appended = random.pick(&[last, last / 2, last.saturating_sub(1)]);
+    let opened = random.pick(&[appended, appended / 2, appended.saturating_sub(10)]);
     route.open = true;
     route.file = OpenFile {
-        opened: random.pick(&[appended, appended / 2, appended.saturating_sub(10)]),
-        appended,
+        opened: Minute::lower(opened),
+        appended: Minute::lower(appended),
         high,
         low,
         format: random.octet() % 8,

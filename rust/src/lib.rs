@@ -28,3 +28,4 @@ pub mod settings;
 pub mod states;
 pub mod timing;
 pub mod trials;
+pub mod words;

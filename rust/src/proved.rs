@@ -3,7 +3,8 @@
 use crate::fields::{Header, RecordHeader};
 use crate::manager::Arrival;
 use crate::name;
-use crate::states::{Answer, State};
+use crate::states::Answer;
+use crate::words::Words;
 use std::ops::Range;
 
 /// A part of a file.
@@ -110,19 +111,12 @@ pub struct NameRead {
     pub fields: NameFields,
 }
 
-/// An event's answer and the state behind it.
-#[repr(C)]
-struct Outcome {
-    answer: Answer,
-    state: State,
-}
-
 /// The answer to settings.
 #[repr(C)]
 #[derive(Clone, Copy, Debug, PartialEq, Eq)]
-pub struct Fresh {
+pub struct Loaded {
     pub refusal: u8,
-    pub state: State,
+    pub words: Words,
 }
 
 /// What RECEIVE carries beside time, key and body.
@@ -149,17 +143,17 @@ impl From<&Arrival<'_>> for ArrivalFields {
     }
 }
 
-impl Fresh {
-    /// The fresh manager's state, or the settings' refusal.
-    pub fn accepted(self) -> Result<State, u8> {
+impl Loaded {
+    /// The words of the fresh manager's state, or the settings' refusal.
+    pub fn accepted(self) -> Result<Words, u8> {
         match self.refusal {
-            0 => Ok(self.state),
+            0 => Ok(self.words),
             refusal => Err(refusal),
         }
     }
 }
 
-// A slice crosses as a pointer and a length.
+// A slice crosses as a pointer and a length in elements.
 extern "C" {
     fn cdr_read(file: *const u8, file_octets: usize) -> Read;
     fn cdr_step(part: *const u8, part_octets: usize) -> Step;
@@ -190,20 +184,22 @@ extern "C" {
     ) -> Written;
 }
 
-// The manager's calls take the state by value and hand back the one behind the event.
+// The manager's calls are lent the state as words, which they change in place.
 extern "C" {
-    fn cdr_load(settings: *const u8, settings_octets: usize) -> Fresh;
+    fn cdr_load(settings: *const u8, settings_octets: usize) -> Loaded;
     fn cdr_open(
-        state: State,
+        words: *mut u32,
+        words_number: usize,
         store: *mut u8,
         store_octets: usize,
         output: *mut u8,
         output_octets: usize,
         time: u32,
         route: u32,
-    ) -> Outcome;
+    ) -> Answer;
     fn cdr_close(
-        state: State,
+        words: *mut u32,
+        words_number: usize,
         store: *mut u8,
         store_octets: usize,
         output: *mut u8,
@@ -211,17 +207,19 @@ extern "C" {
         time: u32,
         route: u32,
         reason: u32,
-    ) -> Outcome;
+    ) -> Answer;
     fn cdr_tick(
-        state: State,
+        words: *mut u32,
+        words_number: usize,
         store: *mut u8,
         store_octets: usize,
         output: *mut u8,
         output_octets: usize,
         time: u32,
-    ) -> Outcome;
+    ) -> Answer;
     fn cdr_receive(
-        state: State,
+        words: *mut u32,
+        words_number: usize,
         store: *mut u8,
         store_octets: usize,
         output: *mut u8,
@@ -232,7 +230,7 @@ extern "C" {
         key_octets: usize,
         body: *const u8,
         body_octets: usize,
-    ) -> Outcome;
+    ) -> Answer;
 }
 
 /// Reads a file.
@@ -318,47 +316,42 @@ pub fn name_write(fields: &name::Fields, output: &mut [u8]) -> Written {
     }
 }
 
-/// The fresh manager's state of these settings; or their refusal and a state beyond its bounds.
-pub fn load(settings: &[u8]) -> Fresh {
+/// The words of the fresh manager of these settings; or their refusal, and words of a state beyond
+/// its bounds.
+pub fn load(settings: &[u8]) -> Loaded {
     // SAFETY: as in `read`.
     unsafe { cdr_load(settings.as_ptr(), settings.len()) }
 }
 
-/// Puts the state behind an event in the place of the one before it.
+/// OPEN; here and below the words may have any number, and become those behind the event.
 #[inline]
-fn settle(state: &mut State, outcome: Outcome) -> Answer {
-    *state = outcome.state;
-    outcome.answer
-}
-
-/// OPEN; the state becomes the one that is handed back, here and below.
 pub fn open(
-    state: &mut State,
+    words: &mut [u32],
     store: &mut [u8],
     output: &mut [u8],
     time: u32,
     route: u32,
 ) -> Answer {
-    let (to, octets) = (output.as_mut_ptr(), output.len());
-    // SAFETY: both pointers and lengths are those of slices that live through the call, and as
+    // SAFETY: all pointers and lengths are those of slices that live through the call, and as
     // `&mut` they do not overlap.
-    let outcome = unsafe {
+    unsafe {
         cdr_open(
-            *state,
+            words.as_mut_ptr(),
+            words.len(),
             store.as_mut_ptr(),
             store.len(),
-            to,
-            octets,
+            output.as_mut_ptr(),
+            output.len(),
             time,
             route,
         )
-    };
-    settle(state, outcome)
+    }
 }
 
 /// CLOSE.
+#[inline]
 pub fn close(
-    state: &mut State,
+    words: &mut [u32],
     store: &mut [u8],
     output: &mut [u8],
     time: u32,
@@ -366,9 +359,10 @@ pub fn close(
     reason: u32,
 ) -> Answer {
     // SAFETY: as in `open`.
-    let outcome = unsafe {
+    unsafe {
         cdr_close(
-            *state,
+            words.as_mut_ptr(),
+            words.len(),
             store.as_mut_ptr(),
             store.len(),
             output.as_mut_ptr(),
@@ -377,31 +371,40 @@ pub fn close(
             route,
             reason,
         )
-    };
-    settle(state, outcome)
+    }
 }
 
 /// TICK.
-pub fn tick(state: &mut State, store: &mut [u8], output: &mut [u8], time: u32) -> Answer {
-    let (to, octets) = (output.as_mut_ptr(), output.len());
+#[inline]
+pub fn tick(words: &mut [u32], store: &mut [u8], output: &mut [u8], time: u32) -> Answer {
     // SAFETY: as in `open`.
-    let outcome = unsafe { cdr_tick(*state, store.as_mut_ptr(), store.len(), to, octets, time) };
-    settle(state, outcome)
+    unsafe {
+        cdr_tick(
+            words.as_mut_ptr(),
+            words.len(),
+            store.as_mut_ptr(),
+            store.len(),
+            output.as_mut_ptr(),
+            output.len(),
+            time,
+        )
+    }
 }
 
 /// RECEIVE.
 #[inline]
 pub fn receive(
-    state: &mut State,
+    words: &mut [u32],
     store: &mut [u8],
     output: &mut [u8],
     time: u32,
     arrival: &Arrival,
 ) -> Answer {
-    // SAFETY: as in `open`; key and body are only read, and neither store nor output overlaps them.
-    let outcome = unsafe {
+    // SAFETY: as in `open`; key and body are only read, and nothing that is written overlaps them.
+    unsafe {
         cdr_receive(
-            *state,
+            words.as_mut_ptr(),
+            words.len(),
             store.as_mut_ptr(),
             store.len(),
             output.as_mut_ptr(),
@@ -413,6 +416,5 @@ pub fn receive(
             arrival.body.as_ptr(),
             arrival.body.len(),
         )
-    };
-    settle(state, outcome)
+    }
 }

@@ -1,5 +1,6 @@
-//! A manager's state by value and the answer to an event, laid out as the proved library has them.
-//! Every field has room for more than is right: a state may be handed over by anyone.
+//! A manager's state, and the answer to an event as the proved library lays it out. Every field has
+//! room for what its bits in the state's words can say and no more, which is more than is right: a
+//! state may be lent by anyone.
 
 #![forbid(unsafe_code)]
 
@@ -9,7 +10,6 @@ use crate::second::{EXTENDED, FIXED};
 use crate::settings;
 
 /// A route's settings; `octets` of the filter count.
-#[repr(C)]
 #[derive(Clone, Copy, Debug, Default, PartialEq, Eq)]
 pub struct RouteSettings {
     pub filter: [u8; LONGEST_FILTER],
@@ -25,13 +25,29 @@ pub struct RouteSettings {
     pub release: Release,
 }
 
+/// A minute of 31 bits: the other bit of its word says something else.
+#[derive(Clone, Copy, Debug, Default, PartialEq, Eq, PartialOrd, Ord)]
+pub struct Minute(u32);
+
+impl Minute {
+    pub const MAX: Self = Self(u32::MAX >> 1);
+
+    /// The minute in the lower 31 bits.
+    pub fn lower(bits: u32) -> Self {
+        Self(bits & Self::MAX.0)
+    }
+
+    pub fn get(self) -> u32 {
+        self.0
+    }
+}
+
 /// An open file; all zeros where one was closed.
-#[repr(C)]
 #[derive(Clone, Copy, Debug, Default, PartialEq, Eq)]
 pub struct OpenFile {
     pub sequence: u32,
-    pub opened: u32,
-    pub appended: u32,
+    pub opened: Minute,
+    pub appended: Minute,
     pub high: Release,
     pub low: Release,
     pub format: u8,
@@ -40,7 +56,6 @@ pub struct OpenFile {
     pub octets: u32,
 }
 
-#[repr(C)]
 #[derive(Clone, Copy, Debug, Default, PartialEq, Eq)]
 pub struct Route {
     pub settings: RouteSettings,
@@ -54,12 +69,11 @@ pub struct Route {
     pub file: OpenFile,
 }
 
-#[repr(C)]
 #[derive(Clone, Copy, Debug, Default, PartialEq, Eq)]
 pub struct State {
     pub routes: [Route; MOST_ROUTES],
     /// How many of the routes are configured.
-    pub count: u8,
+    pub count: u32,
     pub address: [u8; 16],
     /// The UTC offset plus 1,439.
     pub bias: u32,
@@ -109,7 +123,7 @@ impl RouteSettings {
 impl State {
     /// The configured routes, as far as there are such.
     pub fn configured(&self) -> &[Route] {
-        &self.routes[..usize::from(self.count).min(MOST_ROUTES)]
+        &self.routes[..(self.count as usize).min(MOST_ROUTES)]
     }
 
     /// The settings that it has, laid out: those of any state within its bounds can be.

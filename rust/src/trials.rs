@@ -1,5 +1,5 @@
-//! Events on forged states: each with a store and an output, and what the plain manager makes of
-//! it.
+//! Events on the words of forged states: each with a store and an output, and what the plain
+//! manager makes of it.
 
 #![forbid(unsafe_code)]
 
@@ -50,10 +50,11 @@ pub enum Event {
     Receive(Received),
 }
 
-/// An event at a time on a state, with the store and the output that it is lent.
+/// An event at a time, with the words of the state, the store and the output that it is lent.
 #[derive(Clone, Debug, PartialEq, Eq)]
 pub struct Trial {
-    pub state: State,
+    /// May be too few or too many.
+    pub words: Vec<u32>,
     pub store: Vec<u8>,
     pub output: Vec<u8>,
     pub time: u32,
@@ -64,9 +65,16 @@ pub struct Trial {
 #[derive(Clone, Debug, PartialEq, Eq)]
 pub struct After {
     pub answer: Answer,
-    pub state: State,
+    pub words: Vec<u32>,
     pub store: Vec<u8>,
     pub output: Vec<u8>,
+}
+
+impl After {
+    /// The state that is left, unless its words have another number.
+    pub fn state(&self) -> Option<State> {
+        State::from_any_words(&self.words)
+    }
 }
 
 impl Trial {
@@ -86,7 +94,7 @@ impl Trial {
         events.map(|event| {
             let octets = store_octets(random, state);
             let mut trial = Self {
-                state: *state,
+                words: state.words().to_vec(),
                 store: background(random, octets),
                 output: Vec::new(),
                 time: time(random, state),
@@ -98,26 +106,32 @@ impl Trial {
         })
     }
 
-    /// What the event must leave: 18 and all unchanged if the state is beyond its bounds, and else
-    /// what the plain manager in this state leaves.
+    /// The state that it is lent, unless its words have another number.
+    pub fn state(&self) -> Option<State> {
+        State::from_any_words(&self.words)
+    }
+
+    /// What the event must leave: 18 and all unchanged if there is no state or one beyond its
+    /// bounds, and else what the plain manager in this state leaves.
     pub fn expected(&self) -> After {
         let mut after = After {
             answer: Answer {
                 refusal: 18,
                 ..Answer::default()
             },
-            state: self.state,
+            words: self.words.clone(),
             store: self.store.clone(),
             output: self.output.clone(),
         };
-        if bounds::broken(&self.state).is_empty() {
-            self.run_plain(&mut after);
+        let within = |state: &State| bounds::broken(state).is_empty();
+        if let Some(state) = self.state().filter(within) {
+            self.run_plain(&state, &mut after);
         }
         after
     }
 
-    fn run_plain(&self, after: &mut After) {
-        let mut manager = Manager::from_state(&self.state);
+    fn run_plain(&self, state: &State, after: &mut After) {
+        let mut manager = Manager::from_state(state);
         let (store, output, time) = (&mut after.store, &mut after.output, self.time);
         let answer = match &self.event {
             Event::Open { route } => manager.open(store, time, *route),
@@ -126,17 +140,18 @@ impl Trial {
             Event::Receive(received) => manager.receive(store, output, time, &received.arrival()),
         };
         after.answer = answer.into();
-        after.state = manager.state_after(&self.state);
+        after.words = manager.state_after(state).words().to_vec();
     }
 
     /// Whether an open file has other octets in the store than so many records: no list of events
     /// leaves such a state behind. A store that is too short does not tell.
     pub fn is_unreachable(&self) -> bool {
-        if (self.store.len() as u64) < self.state.regions() {
+        let has_regions = |state: &State| state.regions() <= self.store.len() as u64;
+        let Some(state) = self.state().filter(has_regions) else {
             return false;
-        }
+        };
         let mut region = 0;
-        self.state.configured().iter().any(|route| {
+        state.configured().iter().any(|route| {
             let start = region;
             region += route.settings.limit as usize;
             if !route.open {
@@ -209,7 +224,7 @@ fn some_route<'a>(random: &mut Random, state: &'a State) -> &'a Route {
 /// A time: right ones about the last time and about the minute at which a file is due.
 fn time(random: &mut Random, state: &State) -> u32 {
     let route = some_route(random, state);
-    let due = route.file.opened.wrapping_add(route.settings.age);
+    let due = route.file.opened.get().wrapping_add(route.settings.age);
     let any = random.between(0, LAST_MINUTE as usize) as u32;
     let [late, later] = [LAST_MINUTE + 1, random.word() as u32];
     let time = match random.below(16) {
@@ -226,7 +241,7 @@ fn time(random: &mut Random, state: &State) -> u32 {
 }
 
 fn route(random: &mut Random, state: &State) -> u32 {
-    let count = u32::from(state.count);
+    let count = state.count;
     let at = random.below(state.configured().len().max(1)) as u32;
     match random.below(16) {
         0 => random.pick(&[count, 7, 8, 255, 256, 256 + at, 1 << 31 | at, u32::MAX]),
@@ -324,6 +339,19 @@ mod tests {
     use super::*;
     use crate::faults::FAULTS;
     use crate::forge;
+    use crate::words::WORDS;
+
+    /// That 18 is expected and nothing else.
+    fn refuses(trial: &Trial, why: &str) {
+        let after = trial.expected();
+        let answer = Answer {
+            refusal: 18,
+            ..Answer::default()
+        };
+        assert_eq!(after.answer, answer, "{why}");
+        assert_eq!(after.words, trial.words);
+        assert_eq!((&after.store, &after.output), (&trial.store, &trial.output));
+    }
 
     #[test]
     fn a_state_beyond_its_bounds_is_refused_and_all_stays() {
@@ -331,17 +359,25 @@ mod tests {
         for fault in &FAULTS {
             let [past, within] = fault.pair(random);
             for trial in Trial::all(random, &past) {
-                let after = trial.expected();
-                let answer = Answer {
-                    refusal: 18,
-                    ..Answer::default()
-                };
-                assert_eq!(after.answer, answer, "{}", fault.name);
-                assert_eq!(after.state, trial.state);
-                assert_eq!((after.store, after.output), (trial.store, trial.output));
+                refuses(&trial, fault.name);
             }
             for trial in Trial::all(random, &within) {
                 assert_ne!(trial.expected().answer.refusal, 18, "{}", fault.name);
+            }
+        }
+    }
+
+    #[test]
+    fn words_of_another_number_are_refused_and_all_stays() {
+        let random = &mut Random::new(9);
+        let state = forge::right(random, 3);
+        for mut trial in Trial::all(random, &state) {
+            assert_ne!(trial.expected().answer.refusal, 18);
+            trial.words.push(0);
+            refuses(&trial, "one more");
+            for fewer in [WORDS - 1, 8, 1, 0] {
+                trial.words.truncate(fewer);
+                refuses(&trial, "too few");
             }
         }
     }
@@ -354,15 +390,16 @@ mod tests {
         let mut store = vec![0; state.regions() as usize];
         for _ in 0..100 {
             for mut trial in Trial::all(random, &state) {
-                (trial.state, trial.store) = (state, store);
+                (trial.words, trial.store) = (state.words().to_vec(), store);
                 assert!(!trial.is_unreachable());
-                (state, store) = (trial.expected().state, trial.expected().store);
+                let after = trial.expected();
+                (state, store) = (after.state().unwrap(), after.store);
             }
         }
+        let route = &mut state.routes[0];
+        (route.open, route.file.count, route.file.octets) = (true, 1, 3);
         let mut trial = Trial::all(random, &state)[0].clone();
         trial.store = store;
-        let route = &mut trial.state.routes[0];
-        (route.open, route.file.count, route.file.octets) = (true, 1, 3);
         assert!(trial.is_unreachable());
     }
 }

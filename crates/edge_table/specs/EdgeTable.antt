@@ -30,10 +30,12 @@ use Rattle.state.specs.Bounds.{sameFilter, settingsRight, fileRight, stateRight
 use Rattle.settings.specs.Settings.{wrongShape, beyondRange, equalFilters, freshOf}
 use Rattle.settings.specs.Settings.{verdict as settingsVerdict}
 use Rattle.filing.specs.Closing.{closedFile}
-use Rattle.manager.specs.declared.Arrival.{Arrival}
-use Rattle.manager.specs.declared.Answer.{Answer}
-use Rattle.manager.specs.Events.{answered, openOf, closeOf}
-use Rattle.manager.specs.Receive.{receiveOf}
+use Rattle.events.specs.declared.Arrival.{Arrival}
+use Rattle.events.specs.declared.Answer.{Answer}
+use Rattle.events.specs.Events.{answered, openOf, closeOf}
+use Rattle.events.specs.Receive.{receiveOf}
+use Rattle.events.specs.Lent.{openOn, closeOn, receiveOn}
+use Rattle.words.specs.Words.{routeIn, managerIn, wordsOf}
 use Rattle.ledger.specs.Event.{Event, OPEN, CLOSE, RECEIVE}
 use Rattle.ledger.specs.Ledger.{answerOf, entryOf}
 use Rattle.edge_table.specs.Manager.{release4, release7, receive, answers, outputs, booked, filed}
@@ -153,7 +155,7 @@ EdgeTable =
     × (filed fileEvents ≡ [] ∷ [] ∷ octets ∷ [])
 
 pub edge-table : EdgeTable
-unfolding stampOf timestampOf wordOf dateFrom monthDays fileOctets fixedOctets recordsOctets recordOctets highest lowest freshOf settingsVerdict wrongShape beyondRange equalFilters settingsRight sameFilter stateRight fileRight fits routeOf openOf closeOf receiveOf closedFile splice answerOf entryOf
+unfolding wordsOf managerIn routeIn openOn closeOn receiveOn stampOf timestampOf wordOf dateFrom monthDays fileOctets fixedOctets recordsOctets recordOctets highest lowest freshOf settingsVerdict wrongShape beyondRange equalFilters settingsRight sameFilter stateRight fileRight fits routeOf openOf closeOf receiveOf closedFile splice answerOf entryOf
 edge-table = (
   refl,
   refl,

@@ -1,3 +1,4 @@
 pub mod Manager
 pub mod EdgeTable
 pub mod Shared
+pub mod Layout

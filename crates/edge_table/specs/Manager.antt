@@ -4,11 +4,10 @@
 use mathlib.Core.List.{List, [], _∷_, _++_}
 use Prim.Native.Nat.{ℕ}
 use lib.ListN.{replicate}
-use Rattle.state.specs.declared.Manager.{Manager}
-use Rattle.settings.specs.Settings.{freshOf}
-use Rattle.manager.specs.declared.Answer.{Answer}
-use Rattle.manager.specs.declared.Arrival.{Arrival}
-use Rattle.manager.specs.Events.{After}
+use Rattle.settings.specs.Settings.{loadedOf}
+use Rattle.events.specs.declared.Answer.{Answer}
+use Rattle.events.specs.declared.Arrival.{Arrival}
+use Rattle.events.specs.Lent.{Left}
 use Rattle.ledger.specs.Event.{Event, RECEIVE, Lent}
 use Rattle.ledger.specs.Run.{runOf, Booked, booksOf, joined, ledgerFrom}
 
@@ -29,8 +28,8 @@ settings =
     ∷ 0x83 ∷ 0
     ∷ 0 ∷ 0 ∷ 0 ∷ 7 ∷ [])
 
-abbrev pub manager : Manager
-manager = freshOf settings .manager
+abbrev pub fresh : List ℕ
+fresh = loadedOf settings .words
 
 abbrev pub store : List ℕ
 store = replicate 128 0xDD
@@ -51,17 +50,17 @@ lent n [] = []
 lent n (e ∷ es) = record { event = e; output = replicate n 0xEE } ∷ lent n es
 
 -- what the events leave, and what the ledger says of them
-abbrev pub leaves : ℕ → List Event → List After
-leaves n es = runOf manager store (lent n es)
+abbrev pub leaves : ℕ → List Event → List Left
+leaves n es = runOf fresh store (lent n es)
 
-abbrev answersIn : List After → List Answer
+abbrev answersIn : List Left → List Answer
 answersIn [] = []
-answersIn (a ∷ rest) = a .outcome .answer ∷ answersIn rest
+answersIn (a ∷ rest) = a .answer ∷ answersIn rest
 
 abbrev pub answers : List Event → List Answer
 answers es = answersIn (leaves 128 es)
 
-abbrev outputsIn : List After → List (List ℕ)
+abbrev outputsIn : List Left → List (List ℕ)
 outputsIn [] = []
 outputsIn (a ∷ rest) = a .output ∷ outputsIn rest
 

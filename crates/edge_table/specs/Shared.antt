@@ -12,17 +12,17 @@ use Rattle.refusals.specs.Refusal.{_when_, first}
 use Rattle.record.specs.declared.Release.{Release}
 use Rattle.state.specs.declared.RouteSettings.{RouteSettings}
 use Rattle.state.specs.declared.Route.{Route}
-use Rattle.state.specs.declared.Manager.{Manager}
+use Rattle.state.specs.Manager.{Manager}
 use Rattle.state.specs.Manager.{noFile, filterOf}
 use Rattle.state.specs.Bounds.{sameFilter, settingsRight, sameRelease}
 use Rattle.state.specs.Loss.{lost}
 use Rattle.state.specs.Routing.{nobody, better, fits}
 use Rattle.settings.specs.Settings.{unusedRoute, wrongShape, beyondRange, equalFilters, freshOf}
 use Rattle.settings.specs.Settings.{verdict as settingsVerdict}
-use Rattle.manager.specs.declared.Arrival.{Arrival}
-use Rattle.manager.specs.Rules.{later, earlier, allowed, wrongFields}
-use Rattle.manager.specs.Events.{answered}
-use Rattle.manager.specs.Receive.{recordOf}
+use Rattle.events.specs.declared.Arrival.{Arrival}
+use Rattle.events.specs.Rules.{later, earlier, allowed, wrongFields}
+use Rattle.events.specs.Events.{answered}
+use Rattle.events.specs.Receive.{recordOf}
 use Rattle.ledger.specs.Ledger.{none, Line, Ledger}
 use Rattle.ledger.specs.Run.{ledgerFrom}
 

@@ -1,14 +1,13 @@
 // The public calls for programs in other languages, under C's calling convention: tests and benchmarks link them.
 use cdrfile::Header;
+use events::Answer;
+use events::Arrival;
 use filename::Fields;
 use filename::Name;
-use manager::Arrival;
-use manager::Outcome;
 use reader::Contents;
 use reader::Part;
 use record::Stepped;
-use settings::Fresh;
-use state::Manager;
+use settings::Loaded;
 use timestamp::Stamped;
 use writer::Written;
 ghost use mathlib.Core.Path.{_≡_};
@@ -16,10 +15,8 @@ ghost use Rattle.record.specs.Step.{stepOf, stepAt};
 ghost use Rattle.reader.specs.Reader.{readOf};
 ghost use Rattle.timestamp.specs.Stamp.{stampOf};
 ghost use Rattle.writer.specs.Writer.{after, writeOf};
-ghost use Rattle.settings.specs.Settings.{freshOf};
-ghost use Rattle.manager.specs.Events.{openOf, closeOf, tickOf};
-ghost use Rattle.manager.specs.Events.{after as left};
-ghost use Rattle.manager.specs.Receive.{receiveOf};
+ghost use Rattle.settings.specs.Settings.{loadedOf};
+ghost use Rattle.events.specs.Lent.{left, openOn, closeOn, tickOn, receiveOn};
 ghost use Rattle.filename.specs.Reading.{readOf as nameOf};
 ghost use Rattle.filename.specs.Writing.{after as spelled};
 ghost use Rattle.filename.specs.Writing.{writeOf as nameWritten};
@@ -104,59 +101,64 @@ pub extern "C" fn cdr_part_of(file: &[u8], p: Part) -> Part
 }
 
 #[no_mangle]
-pub extern "C" fn cdr_load(octets: &[u8]) -> Fresh
-    ensures { λ r. ⌜ r ≡ freshOf (now (octets .entry)) ⌝ }
+pub extern "C" fn cdr_load(octets: &[u8]) -> Loaded
+    ensures { λ r. ⌜ r ≡ loadedOf (now (octets .entry)) ⌝ }
 {
     settings::load(octets)
 }
 
 #[no_mangle]
 pub extern "C" fn cdr_open(
-    m: Manager,
+    words: &mut [u32],
     store: &mut [u8],
     output: &mut [u8],
     time: u32,
     route: u32,
-) -> Outcome
-    ensures { λ r. ⌜ left r (now (store .exit)) (now (output .exit)) ≡ openOf m (now (store .entry)) (now (output .entry)) time route ⌝ }
+) -> Answer
+    ensures { λ r. ⌜ left r (now (words .exit)) (now (store .exit)) (now (output .exit)) ≡ openOn (now (words .entry)) (now (store .entry)) (now (output .entry)) time route ⌝ }
 {
-    manager::open(m, store, output, time, route)
+    manager::open(words, store, output, time, route)
 }
 
 #[no_mangle]
 pub extern "C" fn cdr_close(
-    m: Manager,
+    words: &mut [u32],
     store: &mut [u8],
     output: &mut [u8],
     time: u32,
     route: u32,
     reason: u32,
-) -> Outcome
-    ensures { λ r. ⌜ left r (now (store .exit)) (now (output .exit)) ≡ closeOf m (now (store .entry)) (now (output .entry)) time route reason ⌝ }
+) -> Answer
+    ensures { λ r. ⌜ left r (now (words .exit)) (now (store .exit)) (now (output .exit)) ≡ closeOn (now (words .entry)) (now (store .entry)) (now (output .entry)) time route reason ⌝ }
 {
-    manager::close(m, store, output, time, route, reason)
+    manager::close(words, store, output, time, route, reason)
 }
 
 #[no_mangle]
-pub extern "C" fn cdr_tick(m: Manager, store: &mut [u8], output: &mut [u8], time: u32) -> Outcome
-    ensures { λ r. ⌜ left r (now (store .exit)) (now (output .exit)) ≡ tickOf m (now (store .entry)) (now (output .entry)) time ⌝ }
+pub extern "C" fn cdr_tick(
+    words: &mut [u32],
+    store: &mut [u8],
+    output: &mut [u8],
+    time: u32,
+) -> Answer
+    ensures { λ r. ⌜ left r (now (words .exit)) (now (store .exit)) (now (output .exit)) ≡ tickOn (now (words .entry)) (now (store .entry)) (now (output .entry)) time ⌝ }
 {
-    manager::tick(m, store, output, time)
+    manager::tick(words, store, output, time)
 }
 
 #[no_mangle]
 pub extern "C" fn cdr_receive(
-    m: Manager,
+    words: &mut [u32],
     store: &mut [u8],
     output: &mut [u8],
     time: u32,
     a: Arrival,
     key: &[u8],
     body: &[u8],
-) -> Outcome
-    ensures { λ r. ⌜ left r (now (store .exit)) (now (output .exit)) ≡ receiveOf m (now (store .entry)) (now (output .entry)) time a (now (key .entry)) (now (body .entry)) ⌝ }
+) -> Answer
+    ensures { λ r. ⌜ left r (now (words .exit)) (now (store .exit)) (now (output .exit)) ≡ receiveOn (now (words .entry)) (now (store .entry)) (now (output .entry)) time a (now (key .entry)) (now (body .entry)) ⌝ }
 {
-    receiving::receive(m, store, output, time, a, key, body)
+    receiving::receive(words, store, output, time, a, key, body)
 }
 
 #[no_mangle]

@@ -1,15 +1,18 @@
 -- A closing (document 01, File header, The events): the whole file of a route, from the state and from the records that stand
 -- from its region's start. The manager writes FF FF FF FF before the 16 octets of the address, and no private extension.
 -- Assumes nothing.
+use mathlib.Core.Path.{_≡_}
 use mathlib.Core.List.{List, [], _∷_}
 use Prim.Native.Nat.{ℕ, _+_}
-use lib.ListN.{take, drop}
+use native.Mathlib.Omega.{arith}
+use lib.ListN.{length, take, drop}
 use Rattle.timestamp.specs.LocalTime.{timestampOf}
 use Rattle.cdrfile.specs.declared.Header.{Header}
-use Rattle.cdrfile.specs.File.{fileOctets}
+use Rattle.cdrfile.specs.File.{headerLength, fileOctets}
 use Rattle.state.specs.declared.Route.{Route}
-use Rattle.state.specs.declared.Manager.{Manager}
-use Rattle.state.specs.Manager.{routeAt, filterOf, base}
+use Rattle.state.specs.declared.Node.{Node}
+use Rattle.state.specs.Manager.{Manager}
+use Rattle.state.specs.Manager.{routeAt, filterOf, base, nodeOf}
 use Rattle.state.specs.Size.{headerSize}
 use Rattle.state.specs.Loss.{indicator}
 
@@ -18,16 +21,16 @@ abbrev pub filler : List ℕ
 filler = 0xFF ∷ 0xFF ∷ 0xFF ∷ 0xFF ∷ []
 
 -- the header's fields at a closing with a reason
-abbrev pub headerFor : Manager → Route → ℕ → Header
-headerFor m r reason =
+abbrev pub headerFor : Node → Route → ℕ → Header
+headerFor n r reason =
     record {
       high = r .file .high;
       low = r .file .low;
-      opened = timestampOf (r .file .opened) (m .bias);
-      appended = timestampOf (r .file .appended) (m .bias);
+      opened = timestampOf (r .file .opened) (n .bias);
+      appended = timestampOf (r .file .appended) (n .bias);
       sequence = r .file .sequence;
       reason = reason;
-      address = 0xFF ∷ 0xFF ∷ 0xFF ∷ 0xFF ∷ m .address;
+      address = 0xFF ∷ 0xFF ∷ 0xFF ∷ 0xFF ∷ n .address;
       lost = indicator (r .losses) (r .note);
     }
 
@@ -38,8 +41,12 @@ recordsAt m store i = take (routeAt m i .file .octets) (drop (base m i) store)
 -- the file that a closing writes
 unfoldable pub closedFile : Manager → List ℕ → ℕ → ℕ → List ℕ
 closedFile m store i reason =
-    fileOctets (headerFor m (routeAt m i) reason) (filterOf (routeAt m i .settings)) [] (recordsAt m store i) (routeAt m i .file .count)
+    fileOctets (headerFor (nodeOf m) (routeAt m i) reason) (filterOf (routeAt m i .settings)) [] (recordsAt m store i) (routeAt m i .file .count)
 
 -- how long it is, from the state alone
 abbrev pub closedSize : Route → ℕ
 closedSize r = headerSize (r .settings .octets) (r .file .high) (r .file .low) + r .file .octets
+
+-- which the size rule of state says of every header that the manager writes: it is the layout's, without a private extension
+pub header-size : (h : Header) (filter : List ℕ) → headerLength h filter [] ≡ headerSize (length filter) (h .high) (h .low)
+header-size h filter = omega arith

@@ -19,7 +19,7 @@ use Rattle.cdrfile.specs.declared.Header.{Header}
 use Rattle.cdrfile.specs.File.{fileOctets}
 use Rattle.cdrfile.specs.Needs.{Writable, Layable}
 use Rattle.state.specs.declared.Route.{Route}
-use Rattle.state.specs.declared.Manager.{Manager}
+use Rattle.state.specs.declared.Node.{Node}
 use Rattle.state.specs.Manager.{filterOf}
 use Rattle.filing.specs.Closing.{filler, headerFor, closedSize}
 use Rattle.filing.specs.Closed.{closedFrom, closed-from-length}
@@ -57,8 +57,8 @@ addressed xs node few sixteen e₁ e₂ =
     ∙ splice-all xs (filler ++ node) (omega (arith, length-append filler node))
 
 -- A file that can be closed can be laid out over the output from its place on, and leaves the closed file there.
-module _ (m : Manager) (r : Route) (reason : ℕ) (store : List ℕ) (from : ℕ) (output : List ℕ) (at octet : ℕ) (able : Closable m r octet store from output at) where
-  pub writable : Writable (headerFor m r reason)
+module _ (n : Node) (r : Route) (reason : ℕ) (store : List ℕ) (from : ℕ) (output : List ℕ) (at octet : ℕ) (able : Closable n r octet store from output at) where
+  pub writable : Writable (headerFor n r reason)
   writable =
       let t = able .headed in
       record {
@@ -66,19 +66,19 @@ module _ (m : Manager) (r : Route) (reason : ℕ) (store : List ℕ) (from : ℕ
         high-version = able .high-version;
         low = able .low;
         low-version = able .low-version;
-        opened = timestamp-narrow (r .file .opened) (m .bias) (omega arith) (omega arith);
-        appended = timestamp-narrow (r .file .appended) (m .bias) (omega arith) (omega arith);
+        opened = timestamp-narrow (r .file .opened) (n .bias) (omega arith) (omega arith);
+        appended = timestamp-narrow (r .file .appended) (n .bias) (omega arith) (omega arith);
       }
 
-  module _ (twenty : length (r .settings .filter) ≡ 20) {h : Header} {n : ℕ} (eh : h ≡ headerFor m r reason) (en : n ≡ r .file .octets) where
+  module _ (twenty : length (r .settings .filter) ≡ 20) {h : Header} {k : ℕ} (eh : h ≡ headerFor n r reason) (en : k ≡ r .file .octets) where
     -- the file that is laid out is the closed one
-    pub laid-from : fileOctets h (filterOf (r .settings)) [] (take n (drop from store)) (r .file .count) ≡ closedFrom m r reason store from
+    pub laid-from : fileOctets h (filterOf (r .settings)) [] (take k (drop from store)) (r .file .count) ≡ closedFrom n r reason store from
     laid-from = λ i. fileOctets (eh i) (filterOf (r .settings)) [] (take (en i) (drop from store)) (r .file .count)
 
-    laid-length : length (fileOctets h (filterOf (r .settings)) [] (take n (drop from store)) (r .file .count)) ≡ closedSize r
-    laid-length = ap length laid-from ∙ closed-from-length m r reason store from (able .records) (able .filter) twenty
+    laid-length : length (fileOctets h (filterOf (r .settings)) [] (take k (drop from store)) (r .file .count)) ≡ closedSize r
+    laid-length = ap length laid-from ∙ closed-from-length n r reason store from (able .records) (able .filter) twenty
 
-    pub layable : Layable h (filterOf (r .settings)) [] (take n (drop from store)) (r .file .count) (take (length output - at) (drop at output))
+    pub layable : Layable h (filterOf (r .settings)) [] (take k (drop from store)) (r .file .count) (take (length output - at) (drop at output))
     layable =
         let d = length-drop at output in
         let p = length-take-le (length output - at) (drop at output) (omega arith) in
@@ -89,8 +89,8 @@ module _ (m : Manager) (r : Route) (reason : ℕ) (store : List ℕ) (from : ℕ
           room = omega (arith, laid-length, able .room);
         }
 
-    pub closed : {part : List ℕ} → part ≡ splice (take (length output - at) (drop at output)) 0 (fileOctets h (filterOf (r .settings)) [] (take n (drop from store)) (r .file .count))
-        → putMid at (length output - at) output part ≡ splice output at (closedFrom m r reason store from)
+    pub closed : {part : List ℕ} → part ≡ splice (take (length output - at) (drop at output)) 0 (fileOctets h (filterOf (r .settings)) [] (take k (drop from store)) (r .file .count))
+        → putMid at (length output - at) output part ≡ splice output at (closedFrom n r reason store from)
     closed e =
         let l = laid-length in
         ap (putMid at (length output - at) output) e

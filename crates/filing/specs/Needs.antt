@@ -7,7 +7,7 @@ use Rattle.record.specs.declared.RecordHeader.{RecordHeader}
 use Rattle.record.specs.Release.{headerLength}
 use Rattle.record.specs.HeaderOctets.{NarrowHeader}
 use Rattle.state.specs.declared.Route.{Route}
-use Rattle.state.specs.declared.Manager.{Manager}
+use Rattle.state.specs.declared.Node.{Node}
 use Rattle.state.specs.Loss.{indicator}
 use Rattle.filing.specs.Closing.{closedSize}
 
@@ -24,15 +24,15 @@ pub record Appendable (store : List ℕ) (base limit used : ℕ) (h : RecordHead
   pub room : used + headerLength (h .release) + length body ≤ limit
 
 -- the times and the offset are in range, and the octet is the route's lost indicator
-pub record Headed (m : Manager) (r : Route) (octet : ℕ) : Type 0 where
+pub record Headed (n : Node) (r : Route) (octet : ℕ) : Type 0 where
   pub opened : r .file .opened ≤ 52595999
   pub appended : r .file .appended ≤ 52595999
-  pub bias : m .bias ≤ 2878
+  pub bias : n .bias ≤ 2878
   pub lost : octet ≡ indicator (r .losses) (r .note)
 
 -- the header's fields are in range, the file's records lie in the store, and the file fits the output from a place on
-pub record Closable (m : Manager) (r : Route) (octet : ℕ) (store : List ℕ) (base : ℕ) (output : List ℕ) (at : ℕ) : Type 0 where
-  pub headed : Headed m r octet
+pub record Closable (n : Node) (r : Route) (octet : ℕ) (store : List ℕ) (base : ℕ) (output : List ℕ) (at : ℕ) : Type 0 where
+  pub headed : Headed n r octet
   pub high : r .file .high .release < 8
   pub high-version : r .file .high .version < 32
   pub low : r .file .low .release < 8

@@ -1,13 +1,14 @@
 // The manager's files: a record appended to its route's region of the store, and a file closed into the output.
 use cdrfile::Header;
 use record::RecordHeader;
-use state::Manager;
+use state::Node;
 use state::Route;
 ghost use mathlib.Core.Path.{_≡_};
 ghost use mathlib.Core.List.{_++_};
 ghost use Prim.Native.Nat.{_+_};
 ghost use Rattle.octets.specs.Splice.{splice};
 ghost use Rattle.record.specs.Record.{recordOctets};
+ghost use Rattle.state.specs.Loss.{indicator};
 ghost use Rattle.filing.specs.Closing.{filler, headerFor};
 ghost use Rattle.filing.specs.Closed.{closedFrom};
 ghost use Rattle.filing.specs.Needs.{Appendable, Fitting, Headed, Closable};
@@ -51,16 +52,16 @@ fn address_of(node: [u8; 16]) -> [u8; 20]
 }
 
 // The header's fields at a closing. `lost` is the route's lost indicator.
-fn header_for(m: Manager, r: Route, reason: u8, lost: u8) -> Header
-    requires { ⌜ Headed m r lost ⌝ }
-    ensures { λ h. ⌜ h ≡ headerFor m r reason ⌝ }
+fn header_for(n: Node, r: Route, reason: u8, lost: u8) -> Header
+    requires { ⌜ Headed n r lost ⌝ }
+    ensures { λ h. ⌜ h ≡ headerFor n r reason ⌝ }
 {
     let f = r.file;
     let high = f.high;
     let low = f.low;
-    let node = m.address;
-    let opened = timestamp::at(f.opened, m.bias);
-    let appended = timestamp::at(f.appended, m.bias);
+    let node = n.address;
+    let opened = timestamp::at(f.opened, n.bias);
+    let appended = timestamp::at(f.appended, n.bias);
     let address = address_of(node);
     Header {
         high: high,
@@ -76,8 +77,8 @@ fn header_for(m: Manager, r: Route, reason: u8, lost: u8) -> Header
 
 // Closes the route's file over the output from `at` on. The file's records stand in the store from `base` on, the start of the
 // route's region, and `lost` is the route's lost indicator.
-pub fn close_into(
-    m: Manager,
+fn close_into(
+    n: Node,
     r: Route,
     reason: u8,
     lost: u8,
@@ -86,10 +87,10 @@ pub fn close_into(
     output: &mut [u8],
     at: usize,
 )
-    requires { ⌜ Closable m r lost (now store) base (now output) at ⌝ }
-    ensures { λ _. ⌜ now (output .exit) ≡ splice (now (output .entry)) at (closedFrom m r reason (now (store .entry)) base) ⌝ }
+    requires { ⌜ Closable n r lost (now store) base (now output) at ⌝ }
+    ensures { λ _. ⌜ now (output .exit) ≡ splice (now (output .entry)) at (closedFrom n r reason (now (store .entry)) base) ⌝ }
 {
-    let h = header_for(m, r, reason, lost);
+    let h = header_for(n, r, reason, lost);
     let filter = r.settings.filter;
     let octets = r.settings.octets as usize;
     let end = base + r.file.octets as usize;
@@ -101,4 +102,21 @@ pub fn close_into(
         r.file.count as usize,
         &mut output[at..],
     );
+}
+
+// Closes the file of a route with a reason over the output from `at` on; its records stand from `base` on.
+pub fn close_file(
+    n: Node,
+    r: Route,
+    reason: u8,
+    store: &[u8],
+    base: usize,
+    output: &mut [u8],
+    at: usize,
+)
+    requires { ⌜ Closable n r (indicator (r .losses) (r .note)) (now store) base (now output) at ⌝ }
+    ensures { λ _. ⌜ now (output .exit) ≡ splice (now (output .entry)) at (closedFrom n r reason (now (store .entry)) base) ⌝ }
+{
+    let lost = state::lost_indicator(r.losses, r.note);
+    close_into(n, r, reason, lost, store, base, output, at);
 }

@@ -1,7 +1,7 @@
 // What a line of the script asks for.
 use crate::words::octets_at;
 use crate::words::small_number_at;
-use manager::Arrival;
+use events::Arrival;
 use textlines::number_at;
 
 // A RECEIVE: its key's and its body's octets stand one behind the other.
@@ -12,8 +12,9 @@ pub struct Receipt {
     pub body: usize,
 }
 
-// An event with its time, and then its route and its reason if it has them.
+// An event with its time, and then its route and its reason if it has them; or nothing, where no event is due.
 pub enum Event {
+    Nothing,
     Open(u32, u32),
     Close(u32, u32, u32),
     Tick(u32),

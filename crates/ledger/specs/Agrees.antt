@@ -9,7 +9,7 @@ use Rattle.octets.specs.Number.{Octets}
 use Rattle.record.specs.Record.{Record, AllRight, recordsOctets}
 use Rattle.state.specs.declared.RouteSettings.{RouteSettings}
 use Rattle.state.specs.declared.Route.{Route}
-use Rattle.state.specs.declared.Manager.{Manager}
+use Rattle.state.specs.Manager.{Manager}
 use Rattle.state.specs.Manager.{routeAt, base}
 use Rattle.state.specs.Bounds.{stateRight}
 use Rattle.ledger.specs.Ledger.{OpenFile, Current, none, some, Line, Ledger, lineAt, highest, lowest}

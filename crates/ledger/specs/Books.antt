@@ -17,10 +17,10 @@ use Rattle.state.specs.declared.RouteSettings.{RouteSettings}
 use Rattle.state.specs.declared.Routed.{Routed}
 use Rattle.state.specs.Routing.{nobody, better, fits}
 use Rattle.settings.specs.Settings.{routesIn, routeStart}
-use Rattle.manager.specs.declared.Answer.{Answer}
-use Rattle.manager.specs.declared.Arrival.{Arrival}
-use Rattle.manager.specs.Events.{After}
-use Rattle.manager.specs.Receive.{recordOf}
+use Rattle.events.specs.declared.Answer.{Answer}
+use Rattle.events.specs.declared.Arrival.{Arrival}
+use Rattle.events.specs.Lent.{Left}
+use Rattle.events.specs.Receive.{recordOf}
 use Rattle.ledger.specs.Event.{Event, OPEN, CLOSE, TICK, RECEIVE, Lent}
 use Rattle.ledger.specs.Ledger.{OpenFile, Current, none, some, Line, Ledger, noLine, lineAt, fileFrom, openLine, closeLine, withCurrent, receivedLine, lostLine, notedLine, appendTo, withLine, withTime, Closing, Entry, recordsIn, recordsOf, isOpen, opens, closeEntry, dueFile, closeDue, tickTo, ticks, amongLines, routedTo, lostBy, differsFrom, exceedsWith, fullWith, Ready, openFor, turnOver, readyBy, appendEntry, places, loses, notedLines, unroutes, effective, closingReasons, isOneOf, refusal, neededBy, regions, answerBy, entryBy, answerOf, entryOf}
 use Rattle.ledger.specs.Run.{Booked, booked, booksOf, ledgerAfter, lineFrom, linesFrom, ledgerFrom}
@@ -763,14 +763,14 @@ placedB l i (e ∷ es) (b ∷ done) =
     placedIf (receivedOn l i (e .event) (b .answer) && not (lostRule l i (e .event))) (e .event) ++ placedB l i es done
 
 -- they are those of the answers, where each answer is the ledger's
-pub record Counts (l : Ledger) (es : List Lent) (done : List After) (bs : List Booked) : Type 0 where
+pub record Counts (l : Ledger) (es : List Lent) (done : List Left) (bs : List Booked) : Type 0 where
   pub received : (i : ℕ) → received l i es done ≡ receivedB l i es bs
   pub lost : (i : ℕ) → lost l i es done ≡ lostB l i es bs
   pub unrouted : unrouted l es done ≡ unroutedB l es bs
   pub placed : (i : ℕ) → placed l i es done ≡ placedB l i es bs
 
-counts-more : (l : Ledger) (e : Lent) (es : List Lent) (a : After) (done : List After) (b : Booked) (bs : List Booked)
-    → a .outcome .answer ≡ b .answer → Counts l es done bs → Counts l (e ∷ es) (a ∷ done) (b ∷ bs)
+counts-more : (l : Ledger) (e : Lent) (es : List Lent) (a : Left) (done : List Left) (b : Booked) (bs : List Booked)
+    → a .answer ≡ b .answer → Counts l es done bs → Counts l (e ∷ es) (a ∷ done) (b ∷ bs)
 counts-more l e es a done b bs q h =
     record {
       received = λ i j. one (receivedOn l i (e .event) (q j)) + h .received i j;
@@ -779,7 +779,7 @@ counts-more l e es a done b bs q h =
       placed = λ i j. placedIf (receivedOn l i (e .event) (q j) && not (lostRule l i (e .event))) (e .event) ++ h .placed i j;
     }
 
-pub counts : (l : Ledger) (es : List Lent) (done : List After) (bs : List Booked) → Answered es done bs → Counts l es done bs
+pub counts : (l : Ledger) (es : List Lent) (done : List Left) (bs : List Booked) → Answered es done bs → Counts l es done bs
 counts l [] [] [] h = record { received = λ i. refl; lost = λ i. refl; unrouted = refl; placed = λ i. refl }
 counts l [] [] (b ∷ bs) h = absurd h
 counts l [] (a ∷ done) bs h = absurd h
@@ -787,7 +787,7 @@ counts l (e ∷ es) [] bs h = absurd h
 counts l (e ∷ es) (a ∷ done) [] h = absurd h
 counts l (e ∷ es) (a ∷ done) (b ∷ bs) h = counts-more l e es a done b bs (h .0 .0) (counts l es done bs (h .1))
 
-module _ (l : Ledger) (es : List Lent) (done : List After) (bs : List Booked) (h : Answered es done bs) where
+module _ (l : Ledger) (es : List Lent) (done : List Left) (bs : List Booked) (h : Answered es done bs) where
   pub received-booked : (i : ℕ) → received l i es done ≡ receivedB l i es bs
   received-booked = counts l es done bs h .received
 

@@ -1,9 +1,9 @@
 -- DEMAND 3 of document 01, stated alone: read this file without its proof (Proof.antt).
 --
 -- In plain words. Take any settings octets that are accepted, a store of any length and content, and any list of OPEN, CLOSE,
--- TICK and RECEIVE, refused ones included, with any clock and any output lent to each. Run the manager on the list, and keep
--- the ledger of document 01 beside it, which is fed the settings, the store's length and each event's arguments and output
--- length, and nothing of the manager. Then every answer is the ledger's, and 18 never comes. The outcome of an event is 3,
+-- TICK and RECEIVE, refused ones included, with any clock and any output lent to each. Run the manager on the list, each event on
+-- the words of the state that the one before left, and keep the ledger of document 01 beside it, which is fed the settings, the
+-- store's length and each event's arguments and output length, and nothing of the manager. Then every answer is the ledger's, and 18 never comes. The outcome of an event is 3,
 -- lost, exactly when it is an accepted RECEIVE that is routed and that the loss rule calls lost there. Each event's output
 -- keeps its length, begins with the files that the ledger closes at that event, one behind another, and its other octets are
 -- as lent: all of them if none closes or the event is refused. Each file closes on a configured route. For each route the
@@ -14,8 +14,8 @@
 -- count, loss counters and unrouted counter in the state are the ledger's; its received and lost records are those counted in
 -- the list, and the accepted unrouted records of the list number the unrouted counter.
 --
--- `freshOf`, `openOf`, `closeOf`, `tickOf` and `receiveOf`, of which `happens` and `runOf` are made, are the definitions that the
--- contracts of the calls cite. Assumes nothing.
+-- `loadedOf`, `openOn`, `closeOn`, `tickOn` and `receiveOn`, of which `leaves` and `runOf` are made, are the definitions that the
+-- contracts of the calls cite; `managerIn` says what words stand for. Assumes nothing.
 use mathlib.Core.Path.{_≡_}
 use mathlib.Core.Logic.{_↔_}
 use mathlib.Core.Bool.{Bool, true, false, cond, not, _&&_}
@@ -31,12 +31,13 @@ use Rattle.cdrfile.specs.File.{File, layout}
 use Rattle.reader.specs.Reader.{readOf}
 use Rattle.roundtrip.specs.Handed.{handedBack}
 use Rattle.state.specs.declared.Route.{Route}
-use Rattle.state.specs.declared.Manager.{Manager}
+use Rattle.state.specs.Manager.{Manager}
 use Rattle.state.specs.Manager.{routeAt, base}
-use Rattle.settings.specs.Settings.{freshOf}
-use Rattle.manager.specs.declared.Answer.{Answer}
-use Rattle.manager.specs.Events.{After}
-use Rattle.manager.specs.Receive.{recordOf}
+use Rattle.settings.specs.Settings.{loadedOf}
+use Rattle.events.specs.declared.Answer.{Answer}
+use Rattle.words.specs.Words.{managerIn}
+use Rattle.events.specs.Lent.{Left}
+use Rattle.events.specs.Receive.{recordOf}
 use Rattle.ledger.specs.Event.{Event, OPEN, CLOSE, TICK, RECEIVE, Lent}
 use Rattle.ledger.specs.Ledger.{Ledger, lineAt, Closing, routedTo, lostBy, recordsOf}
 use Rattle.ledger.specs.Run.{runOf, Booked, booksOf, joined, endOf, storeAfter, ledgerAfter, ledgerFrom}
@@ -78,11 +79,11 @@ lostThere l (RECEIVE time a key body) answer =
     eqb (answer .refusal) 0 && routedTo l a key .found && lostBy (lineAt l (routedTo l a key .at) .settings) a (length body)
 
 -- the outcome of each event is 3 exactly where that says so
-abbrev pub LostExactly : Ledger → List Lent → List After → Type 0
+abbrev pub LostExactly : Ledger → List Lent → List Left → Type 0
 LostExactly l [] done = Unit {0}
 LostExactly l (e ∷ es) [] = ⊥
 LostExactly l (e ∷ es) (a ∷ done) =
-    ((a .outcome .answer .outcome ≡ 3) ↔ (lostThere l (e .event) (a .outcome .answer) ≡ true)) × LostExactly l es done
+    ((a .answer .outcome ≡ 3) ↔ (lostThere l (e .event) (a .answer) ≡ true)) × LostExactly l es done
 
 -- *unrouted*: by an accepted RECEIVE, and no route is found
 abbrev pub unroutedBy : Ledger → Event → Answer → Bool
@@ -95,20 +96,20 @@ abbrev pub one : Bool → ℕ
 one true = 1
 one false = 0
 
-abbrev pub received : Ledger → ℕ → List Lent → List After → ℕ
+abbrev pub received : Ledger → ℕ → List Lent → List Left → ℕ
 received l i [] done = 0
 received l i (e ∷ es) [] = 0
-received l i (e ∷ es) (a ∷ done) = one (receivedOn l i (e .event) (a .outcome .answer)) + received l i es done
+received l i (e ∷ es) (a ∷ done) = one (receivedOn l i (e .event) (a .answer)) + received l i es done
 
-abbrev pub lost : Ledger → ℕ → List Lent → List After → ℕ
+abbrev pub lost : Ledger → ℕ → List Lent → List Left → ℕ
 lost l i [] done = 0
 lost l i (e ∷ es) [] = 0
-lost l i (e ∷ es) (a ∷ done) = one (receivedOn l i (e .event) (a .outcome .answer) && lostRule l i (e .event)) + lost l i es done
+lost l i (e ∷ es) (a ∷ done) = one (receivedOn l i (e .event) (a .answer) && lostRule l i (e .event)) + lost l i es done
 
-abbrev pub unrouted : Ledger → List Lent → List After → ℕ
+abbrev pub unrouted : Ledger → List Lent → List Left → ℕ
 unrouted l [] done = 0
 unrouted l (e ∷ es) [] = 0
-unrouted l (e ∷ es) (a ∷ done) = one (unroutedBy l (e .event) (a .outcome .answer)) + unrouted l es done
+unrouted l (e ∷ es) (a ∷ done) = one (unroutedBy l (e .event) (a .answer)) + unrouted l es done
 
 -- the records received on a route and not lost, in order of receipt
 abbrev pub placedIf : Bool → Event → List Record
@@ -118,11 +119,11 @@ placedIf true (CLOSE time r reason) = []
 placedIf true (TICK time) = []
 placedIf true (RECEIVE time a key body) = recordOf a body ∷ []
 
-abbrev pub placed : Ledger → ℕ → List Lent → List After → List Record
+abbrev pub placed : Ledger → ℕ → List Lent → List Left → List Record
 placed l i [] done = []
 placed l i (e ∷ es) [] = []
 placed l i (e ∷ es) (a ∷ done) =
-    placedIf (receivedOn l i (e .event) (a .outcome .answer) && not (lostRule l i (e .event))) (e .event) ++ placed l i es done
+    placedIf (receivedOn l i (e .event) (a .answer) && not (lostRule l i (e .event))) (e .event) ++ placed l i es done
 
 -- What the files say, as the reader reads them.
 abbrev pub counted : List File → ℕ
@@ -156,15 +157,15 @@ ClosedBelow n [] = Unit {0}
 ClosedBelow n (b ∷ bs) = AllBelow n (b .entry .closings) × ClosedBelow n bs
 
 -- Each event's answer and output, beside what the ledger booked for it.
-abbrev pub Answered : List Lent → List After → List Booked → Type 0
+abbrev pub Answered : List Lent → List Left → List Booked → Type 0
 Answered [] [] [] = Unit {0}
 Answered [] [] (b ∷ bs) = ⊥
 Answered [] (a ∷ done) bs = ⊥
 Answered (e ∷ es) [] bs = ⊥
 Answered (e ∷ es) (a ∷ done) [] = ⊥
 Answered (e ∷ es) (a ∷ done) (b ∷ bs) =
-    ((a .outcome .answer ≡ b .answer)
-    × (a .outcome .answer .refusal ≡ 18 → ⊥)
+    ((a .answer ≡ b .answer)
+    × (a .answer .refusal ≡ 18 → ⊥)
     × (length (joined (b .entry .closings)) ≤ length (e .output))
     × (a .output ≡ splice (e .output) 0 (joined (b .entry .closings)))
     × (length (a .output) ≡ length (e .output)))
@@ -177,39 +178,43 @@ openCount r = cond (r .«open») (r .file .count) 0
 abbrev pub standing : Manager → List ℕ → ℕ → List ℕ
 standing m store i = cond (routeAt m i .«open») (take (routeAt m i .file .octets) (drop (base m i) store)) []
 
--- The claim, of a manager m and a ledger l, a store and a list of events.
-pub record Demand3 (m : Manager) (l : Ledger) (store : List ℕ) (es : List Lent) : Type 0 where
+-- the state that the words behind a list stand for
+abbrev pub behind : List ℕ → List ℕ → List Lent → Manager
+behind words store es = managerIn (endOf words store es)
+
+-- The claim, of a state's words and a ledger l, a store and a list of events.
+pub record Demand3 (words : List ℕ) (l : Ledger) (store : List ℕ) (es : List Lent) : Type 0 where
   -- every answer and every output is the ledger's
-  pub answered : Answered es (runOf m store es) (booksOf l (length store) es)
+  pub answered : Answered es (runOf words store es) (booksOf l (length store) es)
   -- each file belongs to the route that closes it, and that route is configured
-  pub configured : ClosedBelow (m .count) (booksOf l (length store) es)
-  pub filed : (i : ℕ) → i < m .count → lineAt (ledgerAfter l (length store) es) i .closed ≡ closedOn i (booksOf l (length store) es)
+  pub configured : ClosedBelow (managerIn words .count) (booksOf l (length store) es)
+  pub filed : (i : ℕ) → i < managerIn words .count → lineAt (ledgerAfter l (length store) es) i .closed ≡ closedOn i (booksOf l (length store) es)
   -- a record is lost exactly when the loss rule says so
-  pub lost-exactly : LostExactly l es (runOf m store es)
+  pub lost-exactly : LostExactly l es (runOf words store es)
   -- received = closed counts + open count + lost
-  pub balance : (i : ℕ) → i < m .count
-      → received l i es (runOf m store es)
-      ≡ counted (closedOn i (booksOf l (length store) es)) + openCount (routeAt (endOf m store es) i) + lost l i es (runOf m store es)
+  pub balance : (i : ℕ) → i < managerIn words .count
+      → received l i es (runOf words store es)
+      ≡ counted (closedOn i (booksOf l (length store) es)) + openCount (routeAt (behind words store es) i) + lost l i es (runOf words store es)
   -- the others stand in the files, in order, octet for octet
-  pub kept : (i : ℕ) → i < m .count
+  pub kept : (i : ℕ) → i < managerIn words .count
       → (rs : List Record)
-      × (walkOf (standing (endOf m store es) (storeAfter m store es) i) ≡ records rs)
-      × (placed l i es (runOf m store es) ≡ walked (closedOn i (booksOf l (length store) es)) ++ rs)
+      × (walkOf (standing (behind words store es) (storeAfter words store es) i) ≡ records rs)
+      × (placed l i es (runOf words store es) ≡ walked (closedOn i (booksOf l (length store) es)) ++ rs)
   -- every closed file is accepted by the reader, with the fields the ledger gives
-  pub accepted : (i : ℕ) → i < m .count → AllAccepted (closedOn i (booksOf l (length store) es))
+  pub accepted : (i : ℕ) → i < managerIn words .count → AllAccepted (closedOn i (booksOf l (length store) es))
   -- the counters are the ledger's
-  pub counters : (i : ℕ) → i < m .count
-      → (openCount (routeAt (endOf m store es) i) ≡ length (recordsOf (lineAt (ledgerAfter l (length store) es) i)))
-      × (routeAt (endOf m store es) i .losses ≡ lineAt (ledgerAfter l (length store) es) i .losses)
+  pub counters : (i : ℕ) → i < managerIn words .count
+      → (openCount (routeAt (behind words store es) i) ≡ length (recordsOf (lineAt (ledgerAfter l (length store) es) i)))
+      × (routeAt (behind words store es) i .losses ≡ lineAt (ledgerAfter l (length store) es) i .losses)
   -- and the ledger's own counts of received and lost records are those of the list
-  pub booked : (i : ℕ) → i < m .count
-      → (lineAt (ledgerAfter l (length store) es) i .received ≡ received l i es (runOf m store es))
-      × (lineAt (ledgerAfter l (length store) es) i .lost ≡ lost l i es (runOf m store es))
-  pub unrouted-counter : endOf m store es .unrouted ≡ ledgerAfter l (length store) es .unrouted
-  pub unrouted-listed : endOf m store es .unrouted ≡ unrouted l es (runOf m store es)
+  pub booked : (i : ℕ) → i < managerIn words .count
+      → (lineAt (ledgerAfter l (length store) es) i .received ≡ received l i es (runOf words store es))
+      × (lineAt (ledgerAfter l (length store) es) i .lost ≡ lost l i es (runOf words store es))
+  pub unrouted-counter : behind words store es .unrouted ≡ ledgerAfter l (length store) es .unrouted
+  pub unrouted-listed : behind words store es .unrouted ≡ unrouted l es (runOf words store es)
 
 -- DEMAND 3: it holds of the fresh manager and the ledger of any accepted settings, any store, and any list of events.
 abbrev pub Claim : Type 0
 Claim =
-    (xs store : List ℕ) (es : List Lent) → Octets xs → freshOf xs .refusal ≡ 0 → AllGiven es
-    → Demand3 (freshOf xs .manager) (ledgerFrom xs) store es
+    (xs store : List ℕ) (es : List Lent) → Octets xs → loadedOf xs .refusal ≡ 0 → AllGiven es
+    → Demand3 (loadedOf xs .words) (ledgerFrom xs) store es

@@ -1,7 +1,7 @@
 -- The events of a list (document 01, The events), each with the output that it is lent. Assumes nothing.
 use mathlib.Core.List.{List}
 use Prim.Native.Nat.{ℕ}
-use Rattle.manager.specs.declared.Arrival.{Arrival}
+use Rattle.events.specs.declared.Arrival.{Arrival}
 
 pub data Event : Type 0 where
   OPEN : (time route : ℕ) → Event

@@ -19,12 +19,12 @@ use Rattle.cdrfile.specs.File.{fileOctets, layout}
 use Rattle.roundtrip.specs.Described.{Ordered, RightFile}
 use Rattle.cdrfile.specs.Laws.{file-length}
 use Rattle.state.specs.declared.RouteSettings.{RouteSettings}
-use Rattle.state.specs.declared.Manager.{Manager}
+use Rattle.state.specs.Manager.{Manager}
 use Rattle.state.specs.Manager.{routeAt, filterOf, base}
-use Rattle.state.specs.Size.{headerSize, header-size}
+use Rattle.state.specs.Size.{headerSize}
 use Rattle.state.specs.Loss.{indicator}
-use Rattle.filing.specs.Closing.{closedFile, closedSize}
-use Rattle.manager.specs.Rules.{later, earlier}
+use Rattle.filing.specs.Closing.{closedFile, closedSize, header-size}
+use Rattle.events.specs.Rules.{later, earlier}
 use Rattle.ledger.specs.Ledger.{OpenFile, Line, Ledger, greatest, highest, least, lowest, sizeOf, fileFrom}
 use Rattle.ledger.specs.Agrees.{AgreesOpen, AgreesLine}
 

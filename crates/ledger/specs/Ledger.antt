@@ -7,7 +7,7 @@
 -- what a header carries of it (`filterOf`), the loss rule (`lost`), the indicator, the order and sameness of releases (`later`,
 -- `earlier`, `sameRelease`), the record of an arrival (`recordOf`), the header's size (`headerSize`) and the layout, local time
 -- (`timestampOf`), which refusal is the first (`first`), and the form of an answer (`answered`). Edge_table's Shared and EdgeTable
--- evaluate these; `header-size` (state), `indicator-true` (state), `timestamp-right` (timestamp) and record's Order are laws of
+-- evaluate these; `header-size` (filing), `indicator-true` (state), `timestamp-right` (timestamp) and record's Order are laws of
 -- theirs. Assumes nothing.
 use mathlib.Core.Bool.{Bool, true, false, cond, not, _&&_, _||_}
 use mathlib.Core.List.{List, [], _∷_, _++_}
@@ -26,11 +26,11 @@ use Rattle.state.specs.Size.{headerSize}
 use Rattle.state.specs.Loss.{lost, indicator}
 use Rattle.state.specs.Bounds.{sameRelease}
 use Rattle.state.specs.Routing.{nobody, better}
-use Rattle.manager.specs.declared.Answer.{Answer}
-use Rattle.manager.specs.declared.Arrival.{Arrival}
-use Rattle.manager.specs.Rules.{later, earlier, headerFor}
-use Rattle.manager.specs.Events.{answered}
-use Rattle.manager.specs.Receive.{recordOf}
+use Rattle.events.specs.declared.Answer.{Answer}
+use Rattle.events.specs.declared.Arrival.{Arrival}
+use Rattle.events.specs.Rules.{later, earlier, headerFor}
+use Rattle.events.specs.Events.{answered}
+use Rattle.events.specs.Receive.{recordOf}
 use Rattle.ledger.specs.Event.{Event, OPEN, CLOSE, TICK, RECEIVE}
 
 -- an open file: its records in order

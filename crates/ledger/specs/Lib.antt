@@ -20,3 +20,4 @@ pub mod StepReceive
 pub mod Claim
 pub mod Fresh
 pub mod Proof
+pub mod Refused

@@ -22,9 +22,9 @@ use Rattle.state.specs.declared.RouteSettings.{RouteSettings}
 use Rattle.state.specs.declared.Route.{Route}
 use Rattle.state.specs.Size.{headerSize}
 use Rattle.state.specs.Bounds.{sameRelease}
-use Rattle.manager.specs.declared.Arrival.{Arrival}
-use Rattle.manager.specs.Rules.{openedRoute, closedRoute, lostRoute, notedRoute, appendedRoute, later, earlier, highWith, lowWith, differs, exceeds, full, due, recordSize}
-use Rattle.manager.specs.Receive.{recordOf}
+use Rattle.events.specs.declared.Arrival.{Arrival}
+use Rattle.events.specs.Rules.{openedRoute, closedRoute, lostRoute, notedRoute, appendedRoute, later, earlier, highWith, lowWith, differs, exceeds, full, due, recordSize}
+use Rattle.events.specs.Receive.{recordOf}
 use Rattle.ledger.specs.Ledger.{OpenFile, Current, none, some, Line, isOpen, greatest, highest, least, lowest, sizeOf, openLine, closeLine, withCurrent, receivedLine, lostLine, notedLine, appendTo, dueFile, differsOne, differsFrom, exceedsWith, fullWith}
 use Rattle.ledger.specs.Agrees.{Formats, AgreesOpen, AgreesFile, AgreesLine}
 

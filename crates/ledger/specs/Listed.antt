@@ -1,7 +1,6 @@
 -- Two clauses of Demand3 that are read off each event of a list: the files close on configured routes, and an outcome is 3
 -- exactly by the loss rule. Assumes nothing.
 use mathlib.Core.Path.{_≡_, refl, sym, ap, _∙_, subst}
-use mathlib.Core.Logic.{_↔_}
 use mathlib.Core.Bool.{Bool, true, false, cond, _&&_}
 use mathlib.Core.List.{List, [], _∷_}
 use Prim.Native.Nat.{ℕ, zero, suc}
@@ -10,9 +9,8 @@ use lib.ListN.{length}
 use borrow.Author.Tests.{eqb-true, eq-eqb}
 use Rattle.state.specs.declared.RouteSettings.{RouteSettings}
 use Rattle.state.specs.declared.Routed.{Routed}
-use Rattle.manager.specs.declared.Answer.{Answer}
-use Rattle.manager.specs.declared.Arrival.{Arrival}
-use Rattle.manager.specs.Events.{After}
+use Rattle.events.specs.declared.Answer.{Answer}
+use Rattle.events.specs.Lent.{Left}
 use Rattle.ledger.specs.Event.{Event, OPEN, CLOSE, TICK, RECEIVE, Lent}
 use Rattle.ledger.specs.Ledger.{Ledger, lineAt, routedTo, lostBy, refusal, answerBy, answerOf}
 use Rattle.ledger.specs.Run.{booked, booksOf}
@@ -59,12 +57,12 @@ unfolding answerOf
 booked-outcome l n e = outcome-lost l (refusal l n (length (e .output)) (e .event)) (e .event)
 
 -- l has the settings of the first ledger, k
-exactly : (k l : Ledger) → Same k l → (n : ℕ) (es : List Lent) (done : List After) → Answered es done (booksOf l n es) → LostExactly k es done
+exactly : (k l : Ledger) → Same k l → (n : ℕ) (es : List Lent) (done : List Left) → Answered es done (booksOf l n es) → LostExactly k es done
 exactly k l s n [] done h = tt
 exactly k l s n (e ∷ es) [] h = h
 exactly k l s n (e ∷ es) (a ∷ done) h =
     let q = h .0 .0 in
-    let p : eqb (a .outcome .answer .outcome) 3 ≡ lostThere k (e .event) (a .outcome .answer) =
+    let p : eqb (a .answer .outcome) 3 ≡ lostThere k (e .event) (a .answer) =
     ap (λ (x : Answer). eqb (x .outcome) 3) q
     ∙ booked-outcome l n e
     ∙ same-there s (e .event) (booked l n e .answer)
@@ -73,5 +71,5 @@ exactly k l s n (e ∷ es) (a ∷ done) h =
       exactly k (booked l n e .entry .ledger) (same-behind s (booked-moves l n e .same)) n es done (h .1),
     )
 
-pub lost-exactly : (l : Ledger) (n : ℕ) (es : List Lent) (done : List After) → Answered es done (booksOf l n es) → LostExactly l es done
+pub lost-exactly : (l : Ledger) (n : ℕ) (es : List Lent) (done : List Left) → Answered es done (booksOf l n es) → LostExactly l es done
 lost-exactly l = exactly l l (same-self l)

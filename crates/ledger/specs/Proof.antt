@@ -20,9 +20,12 @@ use Rattle.roundtrip.specs.Handed.{handedBack}
 use Rattle.roundtrip.specs.Accepted.{accepts}
 use Rattle.roundtrip.specs.Complete.{complete, handed-again}
 use Rattle.state.specs.declared.Route.{Route}
-use Rattle.state.specs.declared.Manager.{Manager}
+use Rattle.state.specs.Manager.{Manager}
 use Rattle.state.specs.Manager.{routeAt, base}
 use Rattle.settings.specs.Settings.{routesIn, managerFrom, settled, verdict, freshOf}
+use Rattle.settings.specs.Held.{fresh-held}
+use Rattle.words.specs.Words.{managerIn, wordsOf}
+use Rattle.words.specs.Laws.{count-in}
 use Rattle.ledger.specs.Event.{OPEN, CLOSE, TICK, RECEIVE, Lent}
 use Rattle.ledger.specs.Ledger.{Current, none, some, lineAt, recordsIn, recordsOf, Closing}
 use Rattle.ledger.specs.Run.{runOf, Booked, booksOf, endOf, storeAfter, ledgerAfter, ledgerFrom}
@@ -97,42 +100,45 @@ module _ (store : List ℕ) (b : ℕ) (r : Route) where
       ap walkOf ((λ i. cond (h .live i) (take (r .file .octets) (drop b store)) []) ∙ h .stands) ∙ walks (recordsOctets (f .records)) (f .records) (h .right) refl
 
 from-fresh : EventHolds → (xs store : List ℕ) (es : List Lent) → Octets xs → freshOf xs .refusal ≡ 0 → AllGiven es
-    → Demand3 (managerFrom xs (routesIn xs)) (ledgerFrom xs) store es
+    → Demand3 (wordsOf (managerFrom xs (routesIn xs))) (ledgerFrom xs) store es
 from-fresh step xs store es o e g =
     let m = managerFrom xs (routesIn xs) in
     let l = ledgerFrom xs in
     let n = length store in
-    let w = runs step m store l es (fresh-agrees xs o e store) g in
+    let words = wordsOf m in
+    let w = runs step m store l es (fresh-agrees xs o e store) (fresh-held xs o (routesIn xs)) g in
     let bs = booksOf l n es in
-    let done = runOf m store es in
-    let end = endOf m store es in
+    let done = runOf words store es in
+    let end = managerIn (endOf words store es) in
     let z = ledgerAfter l n es in
     let low : (i : ℕ) → i < routesIn xs → i < end .count =
     λ i h. omega (arith, w .agrees .count, same-length (after-same l n es), fresh-length xs) in
-    let line : (i : ℕ) → i < routesIn xs → AgreesLine (storeAfter m store es) (base end i) (routeAt end i) (lineAt z i) = λ i h. w .agrees .lines i (low i h) in
+    let line : (i : ℕ) → i < routesIn xs → AgreesLine (storeAfter words store es) (base end i) (routeAt end i) (lineAt z i) = λ i h. w .agrees .lines i (low i h) in
+    let c : managerIn words .count ≡ routesIn xs = count-in m in
+    let at : (i : ℕ) → i < managerIn words .count → i < routesIn xs = λ i h. omega (arith, c) in
     record {
       answered = w .answered;
-      configured = subst (λ (k : ℕ). ClosedBelow k bs) (fresh-length xs) (closed-below l n es);
-      filed = λ i h. fresh-closed xs n es i h;
+      configured = subst (λ (k : ℕ). ClosedBelow k bs) (fresh-length xs ∙ sym c) (closed-below l n es);
+      filed = λ i h. fresh-closed xs n es i (at i h);
       lost-exactly = lost-exactly l n es done (w .answered);
       balance =
           λ i h.
           received-booked l es done bs (w .answered) i
-          ∙ fresh-sum xs n es i h
-          ∙ (λ j. sym (all-counted (closedOn i bs) (closed-right i bs (w .right))) j + sym (count-same (storeAfter m store es) (base end i) (routeAt end i) (lineAt z i .current) (line i h .file)) j + sym (lost-booked l es done bs (w .answered) i) j);
+          ∙ fresh-sum xs n es i (at i h)
+          ∙ (λ j. sym (all-counted (closedOn i bs) (closed-right i bs (w .right))) j + sym (count-same (storeAfter words store es) (base end i) (routeAt end i) (lineAt z i .current) (line i (at i h) .file)) j + sym (lost-booked l es done bs (w .answered) i) j);
       kept =
           λ i h. (
             recordsOf (lineAt z i),
-            stands-same (storeAfter m store es) (base end i) (routeAt end i) (lineAt z i .current) (line i h .file),
+            stands-same (storeAfter words store es) (base end i) (routeAt end i) (lineAt z i .current) (line i (at i h) .file),
             placed-booked l es done bs (w .answered) i
-                ∙ sym (fresh-records xs n es i h)
+                ∙ sym (fresh-records xs n es i (at i h))
                 ∙ ap (λ (rs : List Record). rs ++ recordsOf (lineAt z i)) (sym (all-walked (closedOn i bs) (closed-right i bs (w .right)))),
           );
       accepted = λ i h. all-accepted (closedOn i bs) (closed-right i bs (w .right));
-      counters = λ i h. (count-same (storeAfter m store es) (base end i) (routeAt end i) (lineAt z i .current) (line i h .file), line i h .losses);
+      counters = λ i h. (count-same (storeAfter words store es) (base end i) (routeAt end i) (lineAt z i .current) (line i (at i h) .file), line i (at i h) .losses);
       booked = λ i h. (
-        fresh-received xs n es i h ∙ sym (received-booked l es done bs (w .answered) i),
-        fresh-lost xs n es i h ∙ sym (lost-booked l es done bs (w .answered) i),
+        fresh-received xs n es i (at i h) ∙ sym (received-booked l es done bs (w .answered) i),
+        fresh-lost xs n es i (at i h) ∙ sym (lost-booked l es done bs (w .answered) i),
       );
       unrouted-counter = w .agrees .unrouted;
       unrouted-listed = w .agrees .unrouted ∙ fresh-unrouted xs n es ∙ sym (unrouted-booked l es done bs (w .answered));
@@ -156,4 +162,4 @@ event store m l a (RECEIVE time v key body) output g = receive-holds a output ti
 
 pub demand-3 : Claim
 demand-3 xs store es o e g =
-    subst (λ (m : Manager). Demand3 m (ledgerFrom xs) store es) (sym (fresh-manager xs e)) (from-fresh event xs store es o e g)
+    subst (λ (m : Manager). Demand3 (wordsOf m) (ledgerFrom xs) store es) (sym (fresh-manager xs e)) (from-fresh event xs store es o e g)

@@ -9,15 +9,16 @@ use lib.Dec.{ltb, leb, eqb}
 use lib.ListN.{length}
 use borrow.Author.Tests.{leb-false, le-ltb}
 use Rattle.refusals.specs.Refusal.{Rule, _when_, first}
-use Rattle.state.specs.declared.Manager.{Manager}
+use Rattle.state.specs.Manager.{Manager}
 use Rattle.state.specs.Manager.{routeAt, regions}
 use Rattle.state.specs.Routing.{nobody, better, among, routeOf}
 use Rattle.state.specs.Bounds.{stateRight}
-use Rattle.manager.specs.declared.Arrival.{Arrival}
-use Rattle.manager.specs.Rules.{allowed}
-use Rattle.manager.specs.Rules.{routedTo as managerRoutes}
-use Rattle.manager.specs.Events.{common, openRules}
-use Rattle.manager.specs.Receive.{countersFull as managerFull}
+use Rattle.events.specs.declared.Arrival.{Arrival}
+use Rattle.events.specs.Rules.{allowed}
+use Rattle.events.specs.Rules.{routedTo as managerRoutes}
+use Rattle.events.specs.Events.{openRules}
+use Rattle.state.specs.Common.{common}
+use Rattle.events.specs.Receive.{countersFull as managerFull}
 use Rattle.ledger.specs.Event.{OPEN, CLOSE, TICK}
 use Rattle.ledger.specs.Ledger.{Ledger, lineAt, isOpen, amongLines, routedTo, closingReasons, isOneOf, neededBy, refusal}
 use Rattle.ledger.specs.Ledger.{regions as lineRegions}

@@ -12,7 +12,7 @@ use lib.Seq.{getD-set-same, getD-set-other, map-set-same, take-add, take-all, dr
 use Rattle.octets.specs.Splice.{splice, splice-length, splice-take, splice-drop}
 use Rattle.state.specs.declared.RouteSettings.{RouteSettings}
 use Rattle.state.specs.declared.Route.{Route}
-use Rattle.state.specs.declared.Manager.{Manager}
+use Rattle.state.specs.Manager.{Manager}
 use Rattle.state.specs.Manager.{noRoute, routeAt, settingsAt, base, regions, withRoute, withTime}
 use Rattle.state.specs.Bounds.{settingsRight, fileRight, routeRight, stateRight}
 use Rattle.state.specs.Within.{SettingsWithin, within-settings, FileWithin, within-file, within-route, within}

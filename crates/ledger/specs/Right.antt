@@ -15,7 +15,7 @@ use Rattle.state.specs.declared.RouteSettings.{RouteSettings}
 use Rattle.state.specs.declared.OpenFile.{OpenFile}
 use Rattle.state.specs.Size.{headerSize}
 use Rattle.state.specs.Bounds.{sameRelease, fileRight}
-use Rattle.manager.specs.Rules.{openedFile, later, earlier, highWith, lowWith, appendedFile}
+use Rattle.events.specs.Rules.{openedFile, later, earlier, highWith, lowWith, appendedFile}
 
 -- a disjunction with a true side
 or-true : (a : Bool) {b : Bool} → b ≡ true → (a || b) ≡ true

@@ -1,32 +1,41 @@
 -- A list of events from a fresh manager, and from a fresh ledger fed the same (document 01, The ledger of demand 3). The
--- manager's side is the fold of the very definitions that the contracts of the events cite. Assumes nothing.
+-- manager's side is the fold of the very definitions that the contracts of the events cite, on the words that it is lent.
+-- Assumes nothing.
 use mathlib.Core.Bool.{false}
 use mathlib.Core.List.{List, [], _∷_, _++_}
 use Prim.Native.Nat.{ℕ, zero, suc, _+_}
 use lib.ListN.{length}
 use Rattle.octets.specs.Number.{num, octetsAt}
 use Rattle.cdrfile.specs.File.{layout}
-use Rattle.state.specs.declared.Manager.{Manager}
+use Rattle.state.specs.Manager.{Manager}
 use Rattle.settings.specs.Settings.{routesIn, routeStart, settingsFrom}
-use Rattle.manager.specs.declared.Answer.{Answer}
-use Rattle.manager.specs.Events.{After, openOf, closeOf, tickOf}
-use Rattle.manager.specs.Receive.{receiveOf}
+use Rattle.events.specs.declared.Answer.{Answer}
+use Rattle.events.specs.Events.{After, openOf, closeOf, tickOf}
+use Rattle.events.specs.Receive.{receiveOf}
+use Rattle.events.specs.Lent.{Left, openOn, closeOn, tickOn, receiveOn}
 use Rattle.ledger.specs.Event.{Event, OPEN, CLOSE, TICK, RECEIVE, Lent}
 use Rattle.ledger.specs.Ledger.{none, Line, Ledger, Closing, Entry, answerOf, entryOf}
 
--- an event on the manager
+-- an event on the state
 abbrev pub happens : Manager → List ℕ → List ℕ → Event → After
 happens m store output (OPEN time i) = openOf m store output time i
 happens m store output (CLOSE time i reason) = closeOf m store output time i reason
 happens m store output (TICK time) = tickOf m store output time
 happens m store output (RECEIVE time a key body) = receiveOf m store output time a key body
 
+-- and on its words, as the calls have it
+abbrev pub leaves : List ℕ → List ℕ → List ℕ → Event → Left
+leaves words store output (OPEN time i) = openOn words store output time i
+leaves words store output (CLOSE time i reason) = closeOn words store output time i reason
+leaves words store output (TICK time) = tickOn words store output time
+leaves words store output (RECEIVE time a key body) = receiveOn words store output time a key body
+
 -- what each event of a list leaves
-abbrev pub runOf : Manager → List ℕ → List Lent → List After
-runOf m store [] = []
-runOf m store (e ∷ es) =
-    happens m store (e .output) (e .event)
-    ∷ runOf (happens m store (e .output) (e .event) .outcome .manager) (happens m store (e .output) (e .event) .store) es
+abbrev pub runOf : List ℕ → List ℕ → List Lent → List Left
+runOf words store [] = []
+runOf words store (e ∷ es) =
+    leaves words store (e .output) (e .event)
+    ∷ runOf (leaves words store (e .output) (e .event) .words) (leaves words store (e .output) (e .event) .store) es
 
 -- what the ledger says of each event: the answer and the entry
 pub record Booked : Type 0 where
@@ -47,15 +56,15 @@ joined [] = []
 joined (c ∷ cs) = layout (c .file) ++ joined cs
 
 -- where a list of events ends
-abbrev pub endOf : Manager → List ℕ → List Lent → Manager
-endOf m store [] = m
-endOf m store (e ∷ es) =
-    endOf (happens m store (e .output) (e .event) .outcome .manager) (happens m store (e .output) (e .event) .store) es
+abbrev pub endOf : List ℕ → List ℕ → List Lent → List ℕ
+endOf words store [] = words
+endOf words store (e ∷ es) =
+    endOf (leaves words store (e .output) (e .event) .words) (leaves words store (e .output) (e .event) .store) es
 
-abbrev pub storeAfter : Manager → List ℕ → List Lent → List ℕ
-storeAfter m store [] = store
-storeAfter m store (e ∷ es) =
-    storeAfter (happens m store (e .output) (e .event) .outcome .manager) (happens m store (e .output) (e .event) .store) es
+abbrev pub storeAfter : List ℕ → List ℕ → List Lent → List ℕ
+storeAfter words store [] = store
+storeAfter words store (e ∷ es) =
+    storeAfter (leaves words store (e .output) (e .event) .words) (leaves words store (e .output) (e .event) .store) es
 
 abbrev pub ledgerAfter : Ledger → ℕ → List Lent → Ledger
 ledgerAfter l store [] = l

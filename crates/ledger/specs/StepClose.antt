@@ -18,12 +18,12 @@ use Rattle.cdrfile.specs.File.{layout}
 use Rattle.roundtrip.specs.Described.{RightFile}
 use Rattle.octets.specs.Number.{Octets}
 use Rattle.state.specs.declared.RouteSettings.{RouteSettings}
-use Rattle.state.specs.declared.Manager.{Manager}
+use Rattle.state.specs.Manager.{Manager}
 use Rattle.state.specs.Manager.{routeAt, settingsAt, base, regions, effective}
 use Rattle.state.specs.Bounds.{routeRight, stateRight}
 use Rattle.filing.specs.Closing.{closedFile, closedSize}
-use Rattle.manager.specs.Rules.{closedRoute, allowed}
-use Rattle.manager.specs.Events.{answered, closeRules, closed, closeOf}
+use Rattle.events.specs.Rules.{closedRoute, allowed}
+use Rattle.events.specs.Events.{answered, closeRules, closed, closeOf}
 use Rattle.ledger.specs.Event.{CLOSE}
 use Rattle.ledger.specs.Ledger.{OpenFile, Current, none, some, Ledger, lineAt, isOpen, Entry, lengths, fileFrom, closeLine, closeEntry, carried, neededBy, answerOf, entryOf}
 use Rattle.ledger.specs.Ledger.{effective as bookTime}

@@ -23,16 +23,16 @@ use Rattle.roundtrip.specs.Described.{RightFile}
 use Rattle.state.specs.declared.RouteSettings.{RouteSettings}
 use Rattle.state.specs.declared.Route.{Route}
 use Rattle.state.specs.declared.OpenFile.{OpenFile as RouteFile}
-use Rattle.state.specs.declared.Manager.{Manager}
+use Rattle.state.specs.Manager.{Manager}
 use Rattle.state.specs.Manager.{routeAt, settingsAt, base, regions, withRoute, withTime}
 use Rattle.state.specs.Size.{headerSize}
 use Rattle.state.specs.Bounds.{sameRelease, fileTests, fileRight, routeRight}
 use Rattle.state.specs.Within.{SettingsWithin, file-within, within-file, RouteWithin, within-route, within}
 use Rattle.state.specs.Keep.{route-later}
 use Rattle.filing.specs.Closing.{closedFile, closedSize}
-use Rattle.manager.specs.Rules.{openedRoute, closedRoute, appendedRoute, highWith, lowWith, differs, exceeds, full, headerFor, recordSize}
-use Rattle.manager.specs.declared.Arrival.{Arrival}
-use Rattle.manager.specs.Receive.{recordOf, turns, ready, finished, storeWith, turnedFile, filledFile, placedSize, placedFiles}
+use Rattle.events.specs.Rules.{openedRoute, closedRoute, appendedRoute, highWith, lowWith, differs, exceeds, full, headerFor, recordSize}
+use Rattle.events.specs.declared.Arrival.{Arrival}
+use Rattle.events.specs.Receive.{recordOf, turns, ready, finished, storeWith, turnedFile, filledFile, placedSize, placedFiles}
 use Rattle.ledger.specs.Ledger.{OpenFile, Current, none, some, Line, Ledger, lineAt, highest, lowest, sizeOf, fileFrom, closeLine, withCurrent, receivedLine, appendTo, Closing, lengths, Entry, differsFrom, exceedsWith, Ready, openFor, turnOver, readyBy, appendEntry, places}
 use Rattle.ledger.specs.Ledger.{withLine, withTime as withBookTime}
 use Rattle.ledger.specs.Run.{joined}

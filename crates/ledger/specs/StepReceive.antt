@@ -14,17 +14,17 @@ use Rattle.refusals.specs.Refusal.{_when_, first, passed, or-false}
 use Rattle.record.specs.Record.{RightRecord}
 use Rattle.state.specs.declared.RouteSettings.{RouteSettings}
 use Rattle.state.specs.declared.Routed.{Routed}
-use Rattle.state.specs.declared.Manager.{Manager}
+use Rattle.state.specs.Manager.{Manager}
 use Rattle.state.specs.Manager.{routeAt, settingsAt, regions, effective}
 use Rattle.state.specs.Size.{aloneSize}
 use Rattle.state.specs.Routing.{nobody}
 use Rattle.state.specs.Bounds.{stateRight}
-use Rattle.manager.specs.declared.Answer.{Answer}
-use Rattle.manager.specs.declared.Arrival.{Arrival}
-use Rattle.manager.specs.Rules.{wrongFields, headerFor, recordSize}
-use Rattle.manager.specs.Events.{After, answered}
-use Rattle.manager.specs.Receive.{recordOf, isLost, placedSize, needed, receiveRules, lostAt, placedAt, unrouted, taken, receiveOf}
-use Rattle.manager.specs.Receive.{countersFull as managerFull}
+use Rattle.events.specs.declared.Answer.{Answer}
+use Rattle.events.specs.declared.Arrival.{Arrival}
+use Rattle.events.specs.Rules.{wrongFields, headerFor, recordSize}
+use Rattle.events.specs.Events.{After, answered}
+use Rattle.events.specs.Receive.{recordOf, isLost, placedSize, needed, receiveRules, lostAt, placedAt, unrouted, taken, receiveOf}
+use Rattle.events.specs.Receive.{countersFull as managerFull}
 use Rattle.ledger.specs.Event.{RECEIVE}
 use Rattle.ledger.specs.Ledger.{Ledger, lineAt, Entry, lengths, amongLines, routedTo, lostBy, loses, places, unroutes, receives, countersFull, fitsMark, neededBy, refusal, answerOf, entryOf}
 use Rattle.ledger.specs.Ledger.{effective as bookTime}

@@ -13,13 +13,13 @@ use Rattle.refusals.specs.Refusal.{_when_, first, passed}
 use Rattle.cdrfile.specs.File.{File, layout}
 use Rattle.roundtrip.specs.Described.{RightFile}
 use Rattle.state.specs.declared.Route.{Route}
-use Rattle.state.specs.declared.Manager.{Manager}
+use Rattle.state.specs.Manager.{Manager}
 use Rattle.state.specs.Manager.{routeAt, settingsAt, base, effective, withRoute}
 use Rattle.state.specs.Bounds.{routeRight}
 use Rattle.state.specs.Keep.{time-right}
 use Rattle.filing.specs.Closing.{closedSize}
-use Rattle.manager.specs.Rules.{closedRoute, due}
-use Rattle.manager.specs.Events.{answered, Run, closing, upTo, dueSize, tickRules, ticked, tickOf}
+use Rattle.events.specs.Rules.{closedRoute, due}
+use Rattle.events.specs.Events.{answered, Run, closing, upTo, dueSize, tickRules, ticked, tickOf}
 use Rattle.ledger.specs.Event.{TICK}
 use Rattle.ledger.specs.Ledger.{OpenFile, Current, none, some, Line, Ledger, lineAt, fileFrom, closeLine, withLine, Closing, Entry, lengths, dueFile, closeDue, tickTo, carried, neededBy, answerOf, entryOf}
 use Rattle.ledger.specs.Ledger.{withTime as withBookTime, effective as bookTime}

@@ -10,14 +10,14 @@ use lib.ListN.{length, getD, length-set}
 use lib.Seq.{getD-set-same, getD-set-other}
 use Rattle.octets.specs.Splice.{splice-nil}
 use Rattle.state.specs.declared.Route.{Route}
-use Rattle.state.specs.declared.Manager.{Manager}
+use Rattle.state.specs.Manager.{Manager}
 use Rattle.state.specs.Manager.{noRoute, routeAt, settingsAt}
 use Rattle.state.specs.Bounds.{routeRight, stateRight}
 use Rattle.state.specs.Within.{RouteWithin, within-route, within, right-within}
 use Rattle.state.specs.Keep.{base-kept, within-kept, route-later}
-use Rattle.manager.specs.Rules.{lostRoute, notedRoute}
-use Rattle.manager.specs.Events.{answered}
-use Rattle.manager.specs.Receive.{noted, unrouted, lostAt}
+use Rattle.events.specs.Rules.{lostRoute, notedRoute}
+use Rattle.events.specs.Events.{answered}
+use Rattle.events.specs.Receive.{noted, unrouted, lostAt}
 use Rattle.ledger.specs.Ledger.{Line, Ledger, noLine, lineAt, lostLine, notedLine, notedLines, loses, unroutes}
 use Rattle.ledger.specs.Agrees.{AgreesLine, Agrees}
 use Rattle.ledger.specs.Lines.{lost-agrees, noted-agrees}

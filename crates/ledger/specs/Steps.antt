@@ -13,14 +13,15 @@ use Rattle.octets.specs.Splice.{splice, splice-nil}
 use Rattle.refusals.specs.Refusal.{Rule, _when_, first, passed}
 use Rattle.roundtrip.specs.Described.{RightFile}
 use Rattle.state.specs.declared.Route.{Route}
-use Rattle.state.specs.declared.Manager.{Manager}
+use Rattle.state.specs.Manager.{Manager}
 use Rattle.state.specs.Manager.{routeAt, settingsAt, regions, effective, withRoute, withTime}
 use Rattle.state.specs.Bounds.{routeRight, stateRight}
 use Rattle.state.specs.Within.{RouteWithin, route-within, within, right-within}
 use Rattle.state.specs.Keep.{within-kept, settings-kept, route-set, route-unset, route-later}
-use Rattle.manager.specs.declared.Answer.{Answer}
-use Rattle.manager.specs.Rules.{openedRoute}
-use Rattle.manager.specs.Events.{After, settled, answered, common, openRules, opened, openOf}
+use Rattle.events.specs.declared.Answer.{Answer}
+use Rattle.events.specs.Rules.{openedRoute}
+use Rattle.events.specs.Events.{After, settled, answered, openRules, opened, openOf}
+use Rattle.state.specs.Common.{common}
 use Rattle.ledger.specs.Event.{Event, OPEN}
 use Rattle.ledger.specs.Ledger.{Ledger, lineAt, Closing, Entry, lengths, openLine, carried, outcomeOf, neededBy, refusal, answerBy, entryBy, answerOf, entryOf}
 use Rattle.ledger.specs.Ledger.{effective as bookTime}

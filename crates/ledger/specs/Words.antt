@@ -7,9 +7,9 @@ use Prim.Native.Nat.{ℕ, zero, suc, _≤_}
 use native.Mathlib.Omega.{arith}
 use native.Mathlib.Decide.{ℕ-discrete}
 use lib.Dec.{ltb, leb, eqb}
-use borrow.Author.Tests.{leb-true, leb-false, lt-ltb, le-ltb, le-leb, lt-leb, eq-eqb, ne-eqb}
-use Rattle.manager.specs.declared.Arrival.{Arrival}
-use Rattle.manager.specs.Rules.{allowed, wrongFields}
+use borrow.Author.Tests.{leb-true, leb-false, lt-ltb, le-ltb, lt-leb, eq-eqb, ne-eqb}
+use Rattle.events.specs.declared.Arrival.{Arrival}
+use Rattle.events.specs.Rules.{allowed, wrongFields}
 use Rattle.ledger.specs.Ledger.{closingReasons, isOneOf, fieldsFit, fitsMark}
 
 -- above a bound is not within it

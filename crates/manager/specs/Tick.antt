@@ -1,24 +1,31 @@
 -- TICK's loops (document 01, The events): a turn of `upTo` and `dueSize`, what the closings need and leave, and the invariant of
 -- the loop that closes the files one behind another. Assumes nothing.
 use mathlib.Core.Path.{_≡_, refl, sym, ap, _∙_}
-use mathlib.Core.Bool.{true, false, cond, _&&_}
-use mathlib.Core.List.{List}
-use Prim.Native.Nat.{ℕ, zero, suc, _+_, _-_, _≤_, _<_}
+use mathlib.Core.Bool.{Bool, true, false, cond, _&&_}
+use mathlib.Core.List.{List, []}
+use Prim.Native.Nat.{ℕ, zero, suc, _+_, _-_, _*_, _≤_, _<_}
 use native.Mathlib.Omega.{arith}
 use native.Mathlib.Nat.{add-zero, add-suc}
 use native.Mathlib.Numerals.{add-one}
 use lib.Dec.{ltb, leb}
-use lib.ListN.{length, length-append}
+use lib.ListN.{length, set, drop, length-set, length-append}
+use lib.Seq.{getD-set-other}
 use Rattle.octets.specs.Splice.{splice, splice-then, splice-nil}
 use Rattle.refusals.specs.Tests.{both}
 use Rattle.state.specs.declared.Route.{Route}
-use Rattle.state.specs.declared.Manager.{Manager}
-use Rattle.state.specs.Manager.{routeAt, base, effective, withRoute, withTime}
+use Rattle.state.specs.Manager.{Manager}
+use Rattle.state.specs.Manager.{noRoute, routeAt, nodeOf, base, effective, withTime}
+use Rattle.state.specs.Loss.{indicator}
 use Rattle.state.specs.Within.{Within}
+use Rattle.words.specs.Words.{managerIn, wordsOf, changingWords}
+use Rattle.words.specs.Laws.{words-words, routes-eight, changed-words, timed-words, route-still, next-still, put-number, put-still}
 use Rattle.filing.specs.Closing.{closedFile, closedSize}
-use Rattle.manager.specs.Rules.{closedRoute, due}
-use Rattle.manager.specs.Events.{after, answered, Run, closing, upTo, dueSize, ticked}
-use Rattle.manager.specs.Cases.{Closes, closes}
+use Rattle.filing.specs.Needs.{Closable}
+use Rattle.events.specs.declared.Answer.{Answer}
+use Rattle.events.specs.Rules.{closedRoute, due}
+use Rattle.events.specs.Events.{answered, Run, closing, upTo, dueSize, ticked}
+use Rattle.events.specs.Lent.{left, worded}
+use Rattle.events.specs.Cases.{closes}
 
 -- a file that is due is open
 pub due-live : (t : ℕ) (r : Route) → due t r ≡ true → r .«open» ≡ true
@@ -53,6 +60,26 @@ module _ (m : Manager) (t : ℕ) where
     pub upTo-not : due t (routeAt m i) ≡ false → upTo m store t (i + 1) ≡ upTo m store t i
     upTo-not e = rw (add-one, e)
 
+-- The closings before it leave a route as it was.
+module _ (m : Manager) (t : ℕ) (store : List ℕ) where
+  pub upTo-eight : (n : ℕ) → length (upTo m store t n .manager .routes) ≡ length (m .routes)
+  upTo-eight zero = refl
+  upTo-eight (suc n) = go (due t (routeAt m n)) (upTo-eight n)
+    where
+      go : (b : Bool) → length (upTo m store t n .manager .routes) ≡ length (m .routes)
+          → length (cond b (closing m store n (upTo m store t n)) (upTo m store t n) .manager .routes) ≡ length (m .routes)
+      go true e = length-set (upTo m store t n .manager .routes) n (closedRoute (routeAt m n)) ∙ e
+      go false e = e
+
+  pub upTo-route : (n j : ℕ) → n ≤ j → routeAt (upTo m store t n .manager) j ≡ routeAt m j
+  upTo-route zero j h = refl
+  upTo-route (suc n) j h = go (due t (routeAt m n)) (upTo-route n j (omega arith))
+    where
+      go : (b : Bool) → routeAt (upTo m store t n .manager) j ≡ routeAt m j
+          → routeAt (cond b (closing m store n (upTo m store t n)) (upTo m store t n) .manager) j ≡ routeAt m j
+      go true e = getD-set-other (upTo m store t n .manager .routes) n j (closedRoute (routeAt m n)) noRoute (λ p. omega arith) ∙ e
+      go false e = e
+
 -- what the closings need: a state within its bounds, its regions in the store, and room for all files
 pub record Ticks (m : Manager) (t n : ℕ) (store output : List ℕ) : Type 0 where
   pub state : Within m
@@ -61,29 +88,39 @@ pub record Ticks (m : Manager) (t n : ℕ) (store output : List ℕ) : Type 0 wh
   pub room : dueSize m t n ≤ length output
 
 -- and what they leave
-pub record Ticked (m : Manager) (t n : ℕ) (store output out : List ℕ) (q : Manager) (files : ℕ) : Type 0 where
-  pub manager : q ≡ upTo m store t n .manager
+pub record Ticked (m : Manager) (t n : ℕ) (store output out xs : List ℕ) (files : ℕ) : Type 0 where
+  pub words : xs ≡ wordsOf (upTo m store t n .manager)
   pub count : files ≡ upTo m store t n .files
   pub written : out ≡ splice output 0 (upTo m store t n .octets)
 
--- The loop's invariant: out, q, at, files and i are the loop's own, output is what it began with.
-pub record Inv (m : Manager) (t n : ℕ) (store output out : List ℕ) (q : Manager) (at files i : ℕ) : Type 0 where
+-- The loop's invariant: out, xs, start, at, files and i are the loop's own, output and words₀, the state's, are what it began
+-- with. The words of the routes from i on are as they were.
+pub record Inv (words₀ : List ℕ) (t n : ℕ) (store output out xs : List ℕ) (start at files i : ℕ) : Type 0 where
   pub below : i ≤ n
   pub few : files ≤ i
-  pub manager : q ≡ upTo m store t i .manager
-  pub size : at ≡ dueSize m t i
-  pub octets : at ≡ length (upTo m store t i .octets)
-  pub count : files ≡ upTo m store t i .files
-  pub written : out ≡ splice output 0 (upTo m store t i .octets)
+  pub words : xs ≡ wordsOf (upTo (managerIn words₀) store t i .manager)
+  pub number : length xs ≡ 152
+  pub rest : drop (8 + 18 * i) xs ≡ drop (8 + 18 * i) words₀
+  pub from : start ≡ base (managerIn words₀) i
+  pub size : at ≡ dueSize (managerIn words₀) t i
+  pub octets : at ≡ length (upTo (managerIn words₀) store t i .octets)
+  pub count : files ≡ upTo (managerIn words₀) store t i .files
+  pub written : out ≡ splice output 0 (upTo (managerIn words₀) store t i .octets)
   pub long : length out ≡ length output
 
-module _ (m : Manager) (t n : ℕ) (store output : List ℕ) where
-  pub begins : Inv m t n store output output m 0 0 0
-  begins =
+module _ (words₀ : List ℕ) (t n : ℕ) (store output : List ℕ) where
+  abbrev m : Manager
+  m = managerIn words₀
+
+  pub begins : length words₀ ≡ 152 → Inv words₀ t n store output output words₀ 0 0 0 0
+  begins e =
       record {
         below = omega arith;
         few = omega arith;
-        manager = refl;
+        words = sym (words-words words₀ e);
+        number = e;
+        rest = refl;
+        from = refl;
         size = refl;
         octets = refl;
         count = refl;
@@ -91,15 +128,26 @@ module _ (m : Manager) (t n : ℕ) (store output : List ℕ) where
         long = refl;
       }
 
-  module _ {out : List ℕ} {q : Manager} {at files i : ℕ} (v : Inv m t n store output out q at files i) (more : i < n) where
+  module _ {out words : List ℕ} {from at files i : ℕ} (v : Inv words₀ t n store output out words from at files i) (more : i < n) where
+    -- the route that is read is the state's
+    pub same-route : n ≤ 8 → routeAt (managerIn words) i ≡ routeAt m i
+    same-route few = route-still words words₀ i (v .rest) (omega arith)
+
+    -- where its region ends
+    next-base : {limit : ℕ} → limit ≡ routeAt m i .settings .limit → from + limit ≡ base m (i + 1)
+    next-base e = rw add-one ((λ j. v .from j + e j))
+
     -- a route whose file is not due
-    pub turn-not : due t (routeAt m i) ≡ false → Inv m t n store output out q at files (i + 1)
-    turn-not e =
+    pub turn-not : {limit : ℕ} → limit ≡ routeAt m i .settings .limit → due t (routeAt m i) ≡ false → Inv words₀ t n store output out words (from + limit) at files (i + 1)
+    turn-not l e =
         let u = upTo-not m t store i e in
         record {
           below = omega arith;
           few = omega (arith, v .few);
-          manager = v .manager ∙ sym (ap (λ (x : Run). x .manager) u);
+          words = v .words ∙ sym (ap (λ (x : Run). wordsOf (x .manager)) u);
+          number = v .number;
+          rest = next-still words words₀ i (v .rest);
+          from = next-base l;
           size = v .size ∙ sym (size-not m t i e);
           octets = v .octets ∙ sym (ap (λ (x : Run). length (x .octets)) u);
           count = v .count ∙ sym (ap (λ (x : Run). x .files) u);
@@ -109,23 +157,37 @@ module _ (m : Manager) (t n : ℕ) (store output : List ℕ) where
 
     module _ (e : due t (routeAt m i) ≡ true) where
       -- its file can be closed
-      pub ready : Ticks m t n store output → Closes m (routeAt m i) i store out at
+      pub ready : Ticks m t n store output → Closable (nodeOf m) (routeAt m i) (indicator (routeAt m i .losses) (routeAt m i .note)) store (base m i) out at
       ready k =
           closes (k .state) store (k .regions) i (omega (arith, k .few)) (due-live t (routeAt m i) e) out at
           (omega (arith, size-due m t i e, size-grows m t (i + 1) n (omega arith), k .room, v .size, v .long))
 
-      -- and is written behind those before it
-      pub turn-due : {out′ : List ℕ} {at′ : ℕ} → at′ ≡ at + closedSize (routeAt m i) → out′ ≡ splice out at (closedFile m store i 2)
+      -- its words are those of the state without it
+      closed-words : n ≤ 8 → {r : Route} → r ≡ closedRoute (routeAt m i) → splice words (17 + 18 * i) (changingWords r []) ≡ wordsOf (upTo m store t (i + 1) .manager)
+      closed-words few {r} er =
+          let q = upTo m store t i .manager in
+          let there : i < length (q .routes) = omega (arith, upTo-eight m t store i, routes-eight words₀) in
+          (λ j. splice (v .words j) (17 + 18 * i) (changingWords (er j) []))
+          ∙ sym (changed-words q i (closedRoute (routeAt m i)) there (sym (ap (λ (x : Route). x .settings) (upTo-route m t store i i (omega arith)))))
+          ∙ sym (ap (λ (x : Run). wordsOf (x .manager)) (upTo-due m t store i e))
+
+      -- and it is written behind those before it
+      pub turn-due : n ≤ 8 → {out′ words′ : List ℕ} {at′ limit : ℕ} {r : Route} → limit ≡ routeAt m i .settings .limit → at′ ≡ at + closedSize (routeAt m i)
+          → out′ ≡ splice out at (closedFile m store i 2)
           → length (closedFile m store i 2) ≡ closedSize (routeAt m i) → length out′ ≡ length out
-          → Inv m t n store output out′ (withRoute q i (closedRoute (routeAt m i))) at′ (files + 1) (i + 1)
-      turn-due ea eo ef el =
+          → r ≡ closedRoute (routeAt m i) → words′ ≡ splice words (17 + 18 * i) (changingWords r [])
+          → Inv words₀ t n store output out′ words′ (from + limit) at′ (files + 1) (i + 1)
+      turn-due few {words′ = words′} {r = r} l ea eo ef el er ew =
           let u = upTo-due m t store i e in
           let f : List ℕ = closedFile m store i 2 in
           let o : List ℕ = upTo m store t i .octets in
           record {
             below = omega arith;
             few = omega (arith, v .few);
-            manager = ap (λ (x : Manager). withRoute x i (closedRoute (routeAt m i))) (v .manager) ∙ sym (ap (λ (x : Run). x .manager) u);
+            words = ew ∙ closed-words few er;
+            number = ap length ew ∙ put-number words words₀ i (v .rest) (v .number) (omega arith) r;
+            rest = ap (drop (8 + 18 * (i + 1))) ew ∙ put-still words words₀ i (v .rest) (v .number) (omega arith) r;
+            from = next-base l;
             size = omega (arith, ea, v .size, size-due m t i e);
             octets = omega (arith, ea, v .octets, ef, length-append o f, ap (λ (x : Run). length (x .octets)) u);
             count = omega (arith, v .count, ap (λ (x : Run). x .files) u);
@@ -138,15 +200,15 @@ module _ (m : Manager) (t n : ℕ) (store output : List ℕ) where
           }
 
 -- what the code puts together at the end is what is to be
-pub ticked-made : (m : Manager) (store output : List ℕ) (time : ℕ) {t size files : ℕ} {q : Manager} {out : List ℕ}
-    → t ≡ effective m time → size ≡ dueSize m t (m .count) → Ticked m t (m .count) store output out q files
-    → after (record { answer = answered 6 255 files size; manager = withTime q t }) store out ≡ ticked m store output time
-ticked-made m store output time {t} et es d =
-    (λ i. after (record { answer = answered 6 255 (d .count i) (es i); manager = withTime (d .manager i) t }) store (d .written i))
-    ∙ (λ i. after
-    (record {
-      answer = answered 6 255 (upTo m store (et i) (m .count) .files) (dueSize m (et i) (m .count));
-      manager = withTime (upTo m store (et i) (m .count) .manager) (et i);
-    })
+pub ticked-made : (m : Manager) (store output : List ℕ) (time : ℕ) {t n size files : ℕ} {words out : List ℕ} {answer : Answer}
+    → t ≡ effective m time → n ≡ m .count → size ≡ dueSize m t n → Ticked m t n store output out words files → answer ≡ answered 6 255 files size
+    → left answer (set words 6 t) store out ≡ worded (ticked m store output time)
+ticked-made m store output time {t} {n} {size} {files} {words} {out} et en es d ea =
+    (λ i. left (ea i) (set words 6 t) store out)
+    ∙ (λ i. left (answered 6 255 (d .count i) (es i)) (set (d .words i) 6 t) store (d .written i))
+    ∙ (λ i. left (answered 6 255 (upTo m store t n .files) (dueSize m t n)) (sym (timed-words (upTo m store t n .manager) t) i) store (splice output 0 (upTo m store t n .octets)))
+    ∙ (λ i. left
+    (answered 6 255 (upTo m store (et i) (en i) .files) (dueSize m (et i) (en i)))
+    (wordsOf (withTime (upTo m store (et i) (en i) .manager) (et i)))
     store
-    (splice output 0 (upTo m store (et i) (m .count) .octets)))
+    (splice output 0 (upTo m store (et i) (en i) .octets)))

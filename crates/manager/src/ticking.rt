@@ -1,28 +1,29 @@
 // TICK (document 01, The events).
 ghost use mathlib.Core.Path.{_≡_};
 ghost use Prim.Native.Nat.{_≤_};
-ghost use Rattle.manager.specs.Events.{dueSize, tickOf, after};
+ghost use lib.ListN.{length};
+ghost use Rattle.words.specs.Words.{managerIn};
+ghost use Rattle.events.specs.Events.{dueSize};
 ghost use Rattle.manager.specs.Tick.{Ticks, Ticked};
-use crate::Answer;
-use crate::Outcome;
-use crate::checks::common_refusal;
-use crate::checks::refuse;
-use crate::closing::close_file;
-use crate::routes::closed_route;
-use crate::routes::closed_size;
-use crate::routes::due_octets;
-use crate::routes::is_due;
-use state::Manager;
+ghost use Rattle.events.specs.Lent.{left, tickOn};
+use events::Answer;
+use events::accept;
+use events::closed_route;
+use events::closed_size;
+use events::due_octets;
+use events::is_due;
+use events::refuse;
+use judging::common_refusal;
 
 // The octets of the files below n that are due at time t.
-fn due_size(m: Manager, t: u32, n: usize) -> usize
-    requires { ⌜ n ≤ 8 ⌝ }
-    ensures { λ r. ⌜ r ≡ dueSize m t n ⌝ }
+fn due_size(words: &[u32], t: u32, n: usize) -> usize
+    requires { ⌜ (length (now words) ≡ 152) × (n ≤ 8) ⌝ }
+    ensures { λ r. ⌜ r ≡ dueSize (managerIn (now (words .entry))) t n ⌝ }
 {
     let mut size: usize = 0;
     let mut i: usize = 0;
     while i < n {
-        let r = m.routes[i];
+        let r = words::route_at(words, i);
         let octets = due_octets(t, r);
         size += octets;
         i += 1;
@@ -30,65 +31,51 @@ fn due_size(m: Manager, t: u32, n: usize) -> usize
     size
 }
 
-// The state behind the closings, and how many there were.
-struct Sweep {
-    manager: Manager,
-    files: u8,
-}
-
-// Closes the files below n that are due at time t, in route order, each behind the one before. Every file is the one that the
-// state at the event's beginning describes.
-fn close_due(m: Manager, t: u32, n: usize, store: &[u8], output: &mut [u8]) -> Sweep
-    requires { ⌜ Ticks m t n (now store) (now output) ⌝ }
-    ensures { λ r. ⌜ Ticked m t n (now (store .entry)) (now (output .entry)) (now (output .exit)) (r .manager) (r .files) ⌝ }
+// Closes the files below n that are due at time t, in route order, each behind the one before; how many there were. Every file is
+// the one that the state at the event's beginning describes: a route's words change behind its own turn.
+fn close_due(words: &mut [u32], t: u32, n: usize, store: &[u8], output: &mut [u8]) -> u8
+    requires { ⌜ (length (now words) ≡ 152) × Ticks (managerIn (now words)) t n (now store) (now output) ⌝ }
+    ensures { λ r. ⌜ Ticked (managerIn (now (words .entry))) t n (now (store .entry)) (now (output .entry)) (now (output .exit)) (now (words .exit)) r ⌝ }
 {
-    let mut q = m;
+    let node = words::node_of(words);
+    let mut from: usize = 0;
     let mut at: usize = 0;
     let mut files: u8 = 0;
     let mut i: usize = 0;
     while i < n {
-        let r = m.routes[i];
+        let r = words::route_at(words, i);
         if is_due(t, r) {
-            close_file(m, r, i, 2, store, output, at);
+            filing::close_file(node, r, 2, store, from, output, at);
             let size = closed_size(r);
             let closed = closed_route(r);
-            q.routes[i] = closed;
+            words::put_route(words, i, closed);
             at += size;
             files += 1;
         }
+        from += r.settings.limit as usize;
         i += 1;
     }
-    Sweep {
-        manager: q,
-        files: files,
-    }
+    files
 }
 
 // Closes with 2 each file whose age has reached its route's limit. The store stays.
-pub fn tick(m: Manager, store: &mut [u8], output: &mut [u8], time: u32) -> Outcome
-    ensures { λ r. ⌜ after r (now (store .exit)) (now (output .exit)) ≡ tickOf m (now (store .entry)) (now (output .entry)) time ⌝ }
+pub fn tick(words: &mut [u32], store: &mut [u8], output: &mut [u8], time: u32) -> Answer
+    ensures { λ r. ⌜ left r (now (words .exit)) (now (store .exit)) (now (output .exit)) ≡ tickOn (now (words .entry)) (now (store .entry)) (now (output .entry)) time ⌝ }
 {
-    let number = common_refusal(m, store.len(), time);
+    if words.len() != 152 {
+        return refuse(18, 0);
+    }
+    let number = common_refusal(words, store.len(), time);
     if number != 0 {
-        return refuse(m, number, 0);
+        return refuse(number, 0);
     }
-    let t = state::effective_time(m, time);
-    let n = m.count as usize;
-    let size = due_size(m, t, n);
+    let t = state::effective_time(words[6], time);
+    let n = words::count_of(words);
+    let size = due_size(words, t, n);
     if output.len() < size {
-        return refuse(m, 17, size);
+        return refuse(17, size);
     }
-    let sweep = close_due(m, t, n, &store[..], output);
-    let mut q = sweep.manager;
-    q.last = t;
-    Outcome {
-        answer: Answer {
-            refusal: 0,
-            outcome: 6,
-            route: 255,
-            files: sweep.files,
-            octets: size,
-        },
-        manager: q,
-    }
+    let files = close_due(words, t, n, &store[..], output);
+    words[6] = t;
+    accept(6, 255, files, size)
 }

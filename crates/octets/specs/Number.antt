@@ -124,6 +124,14 @@ pub octetsAt-length : (w : ℕ) (xs : List ℕ) (k : ℕ) → length (octetsAt w
 octetsAt-length zero xs k = refl
 octetsAt-length (suc w) xs k = ap suc (octetsAt-length w xs (k + 1))
 
+-- one of them
+pub octetsAt-at : (w : ℕ) (xs : List ℕ) (k j : ℕ) → j < w → getD (octetsAt w xs k) j 0 ≡ getD xs (k + j) 0
+octetsAt-at zero xs k j h = absurd (omega arith)
+octetsAt-at (suc w) xs k zero h = ap (λ (n : ℕ). getD xs n 0) (sym (add-zero k))
+octetsAt-at (suc w) xs k (suc j) h =
+    let e : k + 1 + j ≡ k + suc j = omega arith in
+    octetsAt-at w xs (k + 1) j (omega arith) ∙ ap (λ (n : ℕ). getD xs n 0) e
+
 pub octetsAt-octets : (w : ℕ) {xs : List ℕ} (k : ℕ) → Octets xs → Octets (octetsAt w xs k)
 octetsAt-octets zero k o = octets-nil
 octetsAt-octets (suc w) k o = octets-cons (o .at k) (octetsAt-octets w (k + 1) o)

@@ -7,29 +7,30 @@ use Prim.Native.Nat.{ℕ, _+_, _≤_, _<_}
 use lib.ListN.{length, take, drop}
 use Rattle.cdrfile.specs.File.{fileOctets}
 use Rattle.state.specs.declared.Route.{Route}
-use Rattle.state.specs.declared.Manager.{Manager}
-use Rattle.state.specs.Manager.{routeAt, settingsAt, filterOf, base, withRoute}
+use Rattle.state.specs.declared.Node.{Node}
+use Rattle.state.specs.Manager.{Manager}
+use Rattle.state.specs.Manager.{routeAt, settingsAt, filterOf, base, withRoute, nodeOf}
 use Rattle.state.specs.Keep.{base-kept, route-set, settings-kept}
 use Rattle.filing.specs.Closing.{headerFor, closedFile, closedSize}
 use Rattle.filing.specs.Closed.{closedFrom, closed-from-length}
 
 -- a route's file and its length, where it closes
-abbrev pub closedIf : Bool → Manager → Route → ℕ → List ℕ → ℕ → List ℕ
-closedIf b m r reason store from = cond b (closedFrom m r reason store from) []
+abbrev pub closedIf : Bool → Node → Route → ℕ → List ℕ → ℕ → List ℕ
+closedIf b n r reason store from = cond b (closedFrom n r reason store from) []
 
 abbrev pub sizeIf : Bool → Route → ℕ
 sizeIf b r = cond b (closedSize r) 0
 
-pub length-if : (m : Manager) (r : Route) (reason : ℕ) (store : List ℕ) (from : ℕ) → length (r .settings .filter) ≡ 20 → (b : Bool)
-    → (b ≡ true → (from + r .file .octets ≤ length store) × (r .settings .octets ≤ 20)) → length (closedIf b m r reason store from) ≡ sizeIf b r
-length-if m r reason store from twenty true h = closed-from-length m r reason store from (h refl .0) (h refl .1) twenty
-length-if m r reason store from twenty false h = refl
+pub length-if : (n : Node) (r : Route) (reason : ℕ) (store : List ℕ) (from : ℕ) → length (r .settings .filter) ≡ 20 → (b : Bool)
+    → (b ≡ true → (from + r .file .octets ≤ length store) × (r .settings .octets ≤ 20)) → length (closedIf b n r reason store from) ≡ sizeIf b r
+length-if n r reason store from twenty true h = closed-from-length n r reason store from (h refl .0) (h refl .1) twenty
+length-if n r reason store from twenty false h = refl
 
 -- the file of a route that takes another's place with the same settings, from the state where it does
 pub closed-behind : (m : Manager) (q : Route) (store : List ℕ) (i reason : ℕ) → i < length (m .routes) → q .settings ≡ settingsAt m i
-    → closedFrom m q reason store (base m i) ≡ closedFile (withRoute m i q) store i reason
+    → closedFrom (nodeOf m) q reason store (base m i) ≡ closedFile (withRoute m i q) store i reason
 unfolding closedFile
 closed-behind m q store i reason there kept =
     let r : q ≡ routeAt (withRoute m i q) i = sym (route-set m i q there) in
     let b : base m i ≡ base (withRoute m i q) i = sym (base-kept m (withRoute m i q) (settings-kept m i q there kept) i) in
-    λ j. fileOctets (headerFor m (r j) reason) (filterOf (r j .settings)) [] (take (r j .file .octets) (drop (b j) store)) (r j .file .count)
+    λ j. fileOctets (headerFor (nodeOf m) (r j) reason) (filterOf (r j .settings)) [] (take (r j .file .octets) (drop (b j) store)) (r j .file .count)

@@ -14,20 +14,20 @@ use Rattle.record.specs.Record.{recordOctets}
 use Rattle.record.specs.Order.{in-width}
 use Rattle.state.specs.declared.RouteSettings.{RouteSettings}
 use Rattle.state.specs.declared.Route.{Route}
-use Rattle.state.specs.declared.Manager.{Manager}
-use Rattle.state.specs.Manager.{routeAt, base}
+use Rattle.state.specs.declared.Node.{Node}
+use Rattle.state.specs.Manager.{Manager}
+use Rattle.state.specs.Manager.{routeAt, nodeOf, base}
 use Rattle.state.specs.Loss.{indicator}
-use Rattle.state.specs.Within.{SettingsWithin, RouteWithin, within}
-use Rattle.state.specs.Regions.{region-within, regions-all}
+use Rattle.state.specs.Within.{SettingsWithin, RouteWithin}
 use Rattle.filing.specs.Closing.{closedSize}
 use Rattle.filing.specs.Closed.{closed-from}
 use Rattle.filing.specs.Needs.{Appendable, Closable}
-use Rattle.manager.specs.declared.Arrival.{Arrival}
-use Rattle.manager.specs.Rules.{headerFor, recordSize, appendedRoute}
-use Rattle.manager.specs.Receive.{turns, ready, finished, placedSize, placedFiles, storeWith, turnedFile, filledFile}
+use Rattle.events.specs.declared.Arrival.{Arrival}
+use Rattle.events.specs.Rules.{openedRoute, closedRoute, headerFor, recordSize, appendedRoute, full}
+use Rattle.events.specs.Receive.{turns, turnReason, ready, holding, finished, recordOf, placedSize, placedFiles, storeWith, turnedFile, filledFile}
 use Rattle.placing.specs.declared.Plan.{Plan}
 use Rattle.placing.specs.declared.Placed.{Placed}
-use Rattle.placing.specs.Plan.{planned, finishedBy, Placeable, suitable, Roomy, ready-roomy}
+use Rattle.placing.specs.Plan.{planned, finishedBy, Placeable, Roomy, ready-roomy}
 use Rattle.placing.specs.Files.{closedIf, sizeIf, length-if, closed-behind}
 
 -- what placing a record leaves
@@ -43,36 +43,41 @@ left p store output = record { placed = p; store = store; output = output }
 abbrev pub tooLong : Route → ℕ → Placed
 tooLong r octets = record { fits = false; route = r; files = 0; octets = octets }
 
+-- the store with the record behind the file's other records, which stand from a place on
+abbrev pub storeFrom : ℕ → Route → List ℕ → Arrival → List ℕ → ℕ → List ℕ
+storeFrom from r store a body t = splice store (from + ready r a (length body) t .file .octets) (recordOctets (recordOf a body))
+
 -- else the record is in the store, and the files that it closes are in the output
-abbrev pub placeOf : Manager → List ℕ → List ℕ → ℕ → Arrival → List ℕ → ℕ → Left
-placeOf m store output t a body i =
-    cond (ltb (length output) (placedSize (routeAt m i) a (length body) t))
-    (left (tooLong (routeAt m i) (placedSize (routeAt m i) a (length body) t)) store output)
+abbrev pub placeOf : Node → ℕ → Route → List ℕ → List ℕ → ℕ → Arrival → List ℕ → Left
+placeOf n from r store output t a body =
+    cond (ltb (length output) (placedSize r a (length body) t))
+    (left (tooLong r (placedSize r a (length body) t)) store output)
     (left
     (record {
       fits = true;
-      route = finished (routeAt m i) a (length body) t;
-      files = placedFiles (routeAt m i) a (length body) t;
-      octets = placedSize (routeAt m i) a (length body) t;
+      route = finished r a (length body) t;
+      files = placedFiles r a (length body) t;
+      octets = placedSize r a (length body) t;
     })
-    (storeWith m store i a body t)
-    (splice output 0 (turnedFile m store i a (length body) ++ filledFile m store i a body t)))
+    (storeFrom from r store a body t)
+    (splice output 0
+    (closedIf (turns r a (length body)) n r (turnReason r a) store from
+    ++ closedIf (full (holding r a (length body) t)) n (holding r a (length body) t) 3 (storeFrom from r store a body t) from)))
 
 -- what the steps of a plan need: the record fits its region, and each file that closes fits the output, the second behind the first
-pub record Carried (m : Manager) (store output : List ℕ) (r : Route) (p : Plan) (h : RecordHeader) (body : List ℕ) (i : ℕ) : Type 0 where
-  pub few : i ≤ 8
-  pub append : Appendable store (base m i) (r .settings .limit) (p .used) h body
-  pub before : p .turns ≡ true → Closable m r (indicator (r .losses) (r .note)) store (base m i) output 0
+pub record Carried (n : Node) (from : ℕ) (store output : List ℕ) (r : Route) (p : Plan) (h : RecordHeader) (body : List ℕ) : Type 0 where
+  pub append : Appendable store from (r .settings .limit) (p .used) h body
+  pub before : p .turns ≡ true → Closable n r (indicator (r .losses) (r .note)) store from output 0
   pub behind : p .fills ≡ true
-      → Closable m (p .holding) (indicator (p .holding .losses) (p .holding .note)) store (base m i) output (sizeIf (p .turns) r)
+      → Closable n (p .holding) (indicator (p .holding .losses) (p .holding .note)) store from output (sizeIf (p .turns) r)
 
 -- only the lengths of store and output matter to a closing, so what is written before it does not
-pub closable-kept : {m : Manager} {r : Route} {octet at : ℕ} {store store′ output output′ : List ℕ} {octet′ from from′ at′ : ℕ}
-    → octet′ ≡ octet → from′ ≡ from → at′ ≡ at → length store′ ≡ length store → length output′ ≡ length output
-    → Closable m r octet store from output at → Closable m r octet′ store′ from′ output′ at′
-closable-kept eo ef ea es eu c =
+pub closable-kept : {n : Node} {r : Route} {octet from at : ℕ} {store store′ output output′ : List ℕ} {at′ : ℕ}
+    → at′ ≡ at → length store′ ≡ length store → length output′ ≡ length output
+    → Closable n r octet store from output at → Closable n r octet store′ from output′ at′
+closable-kept ea es eu c =
     record {
-      headed = record { opened = c .headed .opened; appended = c .headed .appended; bias = c .headed .bias; lost = eo ∙ c .headed .lost };
+      headed = c .headed;
       high = c .high;
       high-version = c .high-version;
       low = c .low;
@@ -85,25 +90,18 @@ closable-kept eo ef ea es eu c =
     }
 
 -- what the steps leave: the second file stands behind the first, whose length is known
-module _ (m : Manager) (store output : List ℕ) (r : Route) (p : Plan) (h : RecordHeader) (body : List ℕ) (i : ℕ) where
-  pub carried-made : Carried m store output r p h body i → length (r .settings .filter) ≡ 20 → {from at : ℕ} {store′ o₁ o₂ : List ℕ}
-      → from ≡ base m i
+module _ (n : Node) (from : ℕ) (store output : List ℕ) (r : Route) (p : Plan) (h : RecordHeader) (body : List ℕ) where
+  pub carried-made : Carried n from store output r p h body → length (r .settings .filter) ≡ 20 → {at : ℕ} (store′ : List ℕ) {o₁ o₂ : List ℕ}
       → at ≡ sizeIf (p .turns) r
-      → o₁ ≡ splice output 0 (closedIf (p .turns) m r (p .reason) store from)
-      → store′ ≡ splice store (from + p .used) (recordOctets (record { header = h; body = body }))
-      → o₂ ≡ splice o₁ at (closedIf (p .fills) m (p .holding) 3 store′ from)
-      → (store′ ≡ splice store (base m i + p .used) (recordOctets (record { header = h; body = body })))
-      × (o₂ ≡ splice output 0 (closedIf (p .turns) m r (p .reason) store (base m i) ++ closedIf (p .fills) m (p .holding) 3 store′ (base m i)))
-  carried-made c twenty {from} {at} {store′} {o₁} {o₂} ef ea e₁ es e₂ =
-      let one = closedIf (p .turns) m r (p .reason) store (base m i) in
-      let two = closedIf (p .fills) m (p .holding) 3 store′ (base m i) in
+      → o₁ ≡ splice output 0 (closedIf (p .turns) n r (p .reason) store from)
+      → o₂ ≡ splice o₁ at (closedIf (p .fills) n (p .holding) 3 store′ from)
+      → o₂ ≡ splice output 0 (closedIf (p .turns) n r (p .reason) store from ++ closedIf (p .fills) n (p .holding) 3 store′ from)
+  carried-made c twenty {at} store′ {o₁} {o₂} ea e₁ e₂ =
+      let one = closedIf (p .turns) n r (p .reason) store from in
+      let two = closedIf (p .fills) n (p .holding) 3 store′ from in
       let l : length one ≡ sizeIf (p .turns) r =
-      length-if m r (p .reason) store (base m i) twenty (p .turns) (λ e. (c .before e .records, c .before e .filter)) in
-      let f₁ : o₁ ≡ splice output 0 one = e₁ ∙ ap (λ (k : ℕ). splice output 0 (closedIf (p .turns) m r (p .reason) store k)) ef in
-      let f₂ : o₂ ≡ splice (splice output 0 one) at two = e₂ ∙ (λ j. splice (f₁ j) at (closedIf (p .fills) m (p .holding) 3 store′ (ef j))) in (
-        es ∙ ap (λ (k : ℕ). splice store (k + p .used) (recordOctets (record { header = h; body = body }))) ef,
-        f₂ ∙ splice-then output 0 one (omega arith) two at (omega arith),
-      )
+      length-if n r (p .reason) store from twenty (p .turns) (λ e. (c .before e .records, c .before e .filter)) in
+      e₂ ∙ ap (λ (o : List ℕ). splice o at two) e₁ ∙ splice-then output 0 one (omega arith) two at (omega arith)
 
 -- what a plan leaves of its route, with the number and the octets of the files that it closes
 abbrev pub placedBy : Plan → ℕ → Placed
@@ -129,10 +127,10 @@ turns-open r a body e = go (r .«open») refl
     go true p = refl
     go false p = rw p at e
 
-module _ (m : Manager) (store output : List ℕ) (from at : ℕ) (bias : m .bias ≤ 2878) where
+module _ (n : Node) (store output : List ℕ) (from at : ℕ) (bias : n .bias ≤ 2878) where
   -- an open file of a state within its bounds can close
   open-closable : (r : Route) → RouteWithin 52595999 r → r .«open» ≡ true → from + r .settings .limit ≤ length store → at + closedSize r ≤ length output
-      → Closable m r (indicator (r .losses) (r .note)) store from output at
+      → Closable n r (indicator (r .losses) (r .note)) store from output at
   open-closable r w o region room =
       let f = w .file o in
       let s = w .settings in
@@ -155,7 +153,7 @@ module _ (m : Manager) (store output : List ℕ) (from at : ℕ) (bias : m .bias
   -- and so can a file with the record in it
   held-closable : (s : RouteSettings) (q : Route) (h : RecordHeader) (octets t : ℕ) → SettingsWithin s → Roomy s q h octets → t ≤ 52595999
       → from + s .limit ≤ length store → at + closedSize (appendedRoute q h octets t) ≤ length output
-      → Closable m (appendedRoute q h octets t) (indicator (q .losses) (q .note)) store from output at
+      → Closable n (appendedRoute q h octets t) (indicator (q .losses) (q .note)) store from output at
   held-closable s q h octets t w y time region room =
       let e : q .settings .octets ≡ s .octets = ap (λ (x : RouteSettings). x .octets) (y .settings) in
       let size : closedSize (appendedRoute q h octets t) ≤ s .limit = omega (arith, y .size) in
@@ -172,72 +170,78 @@ module _ (m : Manager) (store output : List ℕ) (from at : ℕ) (bias : m .bias
         room = room;
       }
 
-module _ (m : Manager) (store output : List ℕ) (t : ℕ) (a : Arrival) (body : List ℕ) (i : ℕ) where
-  abbrev r : Route
-  r = routeAt m i
-
+module _ (n : Node) (from : ℕ) (r : Route) (store output : List ℕ) (t : ℕ) (a : Arrival) (body : List ℕ) where
   abbrev p : Plan
   p = planned r a (length body) t
 
   -- the files are too long
   pub place-refused : {octets : ℕ} → octets ≡ placedSize r a (length body) t → length output < octets
-      → left (tooLong r octets) store output ≡ placeOf m store output t a body i
+      → left (tooLong r octets) store output ≡ placeOf n from r store output t a body
   place-refused {octets} en less =
       let k : length output < placedSize r a (length body) t = omega arith in
       let b : ltb (length output) (placedSize r a (length body) t) ≡ true = lt-ltb _ _ k in
-      ap (λ (n : ℕ). left (tooLong r n) store output) en ∙ sym (rw b)
+      ap (λ (x : ℕ). left (tooLong r x) store output) en ∙ sym (rw b)
 
-  module _ (l : Placeable m (length store) t a (length body) i) where
-    region : base m i + r .settings .limit ≤ length store
-    region =
-        let w = within m (l .right) in
-        omega (arith, region-within m i (m .count) (l .inside), regions-all m (w .few), l .regions)
-
+  module _ (l : Placeable n from r (length store) t a (length body)) where
     roomy : Roomy (r .settings) (ready r a (length body) t) (headerFor a) (recordSize a (length body))
-    roomy = ready-roomy r a (length body) t (suitable l)
+    roomy = ready-roomy r a (length body) t (l .suitable)
 
-    appendable : Appendable store (base m i) (r .settings .limit) (p .used) (headerFor a) body
+    appendable : Appendable store from (r .settings .limit) (p .used) (headerFor a) body
     appendable =
+        let u = l .suitable .usable in
         record {
-          narrow = record { release = l .usable .release; version = l .usable .version; format = l .usable .format; ts = l .usable .ts };
-          short = suitable l .short;
-          region = region;
+          narrow = record { release = u .release; version = u .version; format = u .format; ts = u .ts };
+          short = l .suitable .short;
+          region = l .region;
           room = omega (arith, roomy .size);
         }
 
     -- the plan can be carried out
-    pub carried : placedSize r a (length body) t ≤ length output → {p′ : Plan} {h : RecordHeader} → p′ ≡ p → h ≡ headerFor a → Carried m store output r p′ h body i
+    pub carried : placedSize r a (length body) t ≤ length output → {p′ : Plan} {h : RecordHeader} → p′ ≡ p → h ≡ headerFor a → Carried n from store output r p′ h body
     carried fits {p′} {h} ep eh =
-        let w = within m (l .right) in
-        let s = suitable l in
-        let c : Carried m store output r p (headerFor a) body i =
+        let s = l .suitable in
+        let c : Carried n from store output r p (headerFor a) body =
         record {
-          few = omega (arith, l .inside, w .few);
           append = appendable;
-          before = λ e. open-closable m store output (base m i) 0 (w .bias) r (s .within) (turns-open r a (length body) e) region (first-part (closedSize r) (sizeIf (p .fills) (p .holding)) fits e);
-          behind = λ e. held-closable m store output (base m i) (sizeIf (p .turns) r) (w .bias) (r .settings) (ready r a (length body) t) (headerFor a)
-              (recordSize a (length body)) t (s .within .settings) roomy (l .time) region (both-parts (sizeIf (p .turns) r) (closedSize (p .holding)) fits e);
+          before = λ e. open-closable n store output from 0 (l .bias) r (s .within) (turns-open r a (length body) e) (l .region) (first-part (closedSize r) (sizeIf (p .fills) (p .holding)) fits e);
+          behind = λ e. held-closable n store output from (sizeIf (p .turns) r) (l .bias) (r .settings) (ready r a (length body) t) (headerFor a)
+              (recordSize a (length body)) t (s .within .settings) roomy (s .time) (l .region) (both-parts (sizeIf (p .turns) r) (closedSize (p .holding)) fits e);
         } in
-        subst (λ (x : Plan). Carried m store output r x h body i) (sym ep)
-        (subst (λ (g : RecordHeader). Carried m store output r p g body i) (sym eh) c)
+        subst (λ (x : Plan). Carried n from store output r x h body) (sym ep)
+        (subst (λ (g : RecordHeader). Carried n from store output r p g body) (sym eh) c)
 
     -- and what it leaves is what the definition says
-    pub place-made : i < length (m .routes) → {p′ : Plan} {h : RecordHeader} {q : Placed} {octets : ℕ} {store′ output′ : List ℕ}
+    pub place-made : {p′ : Plan} {h : RecordHeader} {q : Placed} {octets : ℕ} {store′ output′ : List ℕ}
         → p′ ≡ p → h ≡ headerFor a → octets ≡ placedSize r a (length body) t → octets ≤ length output
-        → store′ ≡ splice store (base m i + p′ .used) (recordOctets (record { header = h; body = body }))
-        → output′ ≡ splice output 0 (closedIf (p′ .turns) m r (p′ .reason) store (base m i) ++ closedIf (p′ .fills) m (p′ .holding) 3 store′ (base m i))
+        → store′ ≡ splice store (from + p′ .used) (recordOctets (record { header = h; body = body }))
+        → output′ ≡ splice output 0 (closedIf (p′ .turns) n r (p′ .reason) store from ++ closedIf (p′ .fills) n (p′ .holding) 3 store′ from)
         → q ≡ placedBy p′ octets
-        → left q store′ output′ ≡ placeOf m store output t a body i
-    place-made there {p′} {h} {q} {octets} {store′} {output′} ep eh en fits es eo ea =
+        → left q store′ output′ ≡ placeOf n from r store output t a body
+    place-made {p′} {h} {q} {octets} {store′} {output′} ep eh en fits es eo ea =
         let k : placedSize r a (length body) t ≤ length output = omega arith in
         let b : ltb (length output) (placedSize r a (length body) t) ≡ false = le-ltb _ _ k in
-        let s : store′ ≡ storeWith m store i a body t = es ∙ (λ j. splice store (base m i + ep j .used) (recordOctets (record { header = eh j; body = body }))) in
-        let one : closedIf (p′ .turns) m r (p′ .reason) store (base m i) ≡ turnedFile m store i a (length body) =
-        (λ j. closedIf (ep j .turns) m r (ep j .reason) store (base m i))
-        ∙ ap (λ (x : List ℕ). cond (p .turns) x []) (sym (closed-from m store i (p .reason))) in
-        let two : closedIf (p′ .fills) m (p′ .holding) 3 store′ (base m i) ≡ filledFile m store i a body t =
-        (λ j. closedIf (ep j .fills) m (ep j .holding) 3 (s j) (base m i))
-        ∙ ap (λ (x : List ℕ). cond (p .fills) x []) (closed-behind m (p .holding) (storeWith m store i a body t) i 3 there (roomy .settings)) in
-        let out : output′ ≡ splice output 0 (turnedFile m store i a (length body) ++ filledFile m store i a body t) = eo ∙ (λ j. splice output 0 (one j ++ two j)) in
+        let s : store′ ≡ storeFrom from r store a body t = es ∙ (λ j. splice store (from + ep j .used) (recordOctets (record { header = eh j; body = body }))) in
+        let out : output′ ≡ splice output 0 (closedIf (p .turns) n r (p .reason) store from ++ closedIf (p .fills) n (p .holding) 3 (storeFrom from r store a body t) from) =
+        eo ∙ (λ j. splice output 0 (closedIf (ep j .turns) n r (ep j .reason) store from ++ closedIf (ep j .fills) n (ep j .holding) 3 (s j) from)) in
         let answer : q ≡ placedBy p (placedSize r a (length body) t) = ea ∙ (λ j. placedBy (ep j) (en j)) in
         (λ j. left (answer j) (s j) (out j)) ∙ sym (rw b)
+
+-- In a state, on a route's number: the store and the output that the definition of RECEIVE has.
+module _ (m : Manager) (store output : List ℕ) (t : ℕ) (a : Arrival) (body : List ℕ) (i : ℕ) where
+  -- the settings stay
+  ready-settings : (r : Route) (b o : Bool) → cond b (openedRoute (closedRoute r) t) (cond o r (openedRoute r t)) .settings ≡ r .settings
+  ready-settings r true o = refl
+  ready-settings r false true = refl
+  ready-settings r false false = refl
+
+  pub placed-there : i < length (m .routes)
+      → splice output 0
+      (closedIf (turns (routeAt m i) a (length body)) (nodeOf m) (routeAt m i) (turnReason (routeAt m i) a) store (base m i)
+      ++ closedIf (full (holding (routeAt m i) a (length body) t)) (nodeOf m) (holding (routeAt m i) a (length body) t) 3 (storeFrom (base m i) (routeAt m i) store a body t) (base m i))
+      ≡ splice output 0 (turnedFile m store i a (length body) ++ filledFile m store i a body t)
+  placed-there there =
+      let r = routeAt m i in
+      let kept = ready-settings r (turns r a (length body)) (r .«open») in
+      λ j. splice output 0
+      (cond (turns r a (length body)) (sym (closed-from m store i (turnReason r a)) j) []
+      ++ cond (full (holding r a (length body) t)) (closed-behind m (holding r a (length body) t) (storeWith m store i a body t) i 3 there kept j) [])

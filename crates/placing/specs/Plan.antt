@@ -14,15 +14,17 @@ use Rattle.record.specs.Release.{rank, headerLength}
 use Rattle.record.specs.Order.{InWidth, in-width}
 use Rattle.state.specs.declared.RouteSettings.{RouteSettings}
 use Rattle.state.specs.declared.Route.{Route}
-use Rattle.state.specs.declared.Manager.{Manager}
-use Rattle.state.specs.Manager.{routeAt, regions}
+use Rattle.state.specs.declared.Node.{Node}
+use Rattle.state.specs.Manager.{Manager}
+use Rattle.state.specs.Manager.{routeAt, nodeOf, base, regions}
 use Rattle.state.specs.Size.{headerSize, aloneSize}
 use Rattle.state.specs.Bounds.{stateRight}
 use Rattle.state.specs.Within.{RouteWithin, within}
 use Rattle.state.specs.Keep.{route-later}
-use Rattle.manager.specs.declared.Arrival.{Arrival}
-use Rattle.manager.specs.Rules.{openedRoute, closedRoute, highWith, lowWith, appendedRoute, differs, exceeds, full, headerFor, recordSize}
-use Rattle.manager.specs.Receive.{isLost, turns, turnReason, ready, holding}
+use Rattle.state.specs.Regions.{region-within, regions-all}
+use Rattle.events.specs.declared.Arrival.{Arrival}
+use Rattle.events.specs.Rules.{openedRoute, closedRoute, highWith, lowWith, appendedRoute, differs, exceeds, full, headerFor, recordSize}
+use Rattle.events.specs.Receive.{isLost, turns, turnReason, ready, holding}
 use Rattle.placing.specs.declared.Plan.{Plan}
 
 -- the fields of a record that can be placed are within their widths
@@ -139,8 +141,14 @@ module _ (r : Route) (a : Arrival) (body t : ℕ) (s : Suitable r a body t) wher
       let o : q .file .octets ≡ ready r a body t .file .octets = ap (λ (p : Route). p .file .octets) eq in
       (omega (arith, y .count, y .size), omega (arith, y .size))
 
--- a manager, the length of a store, a record and a route where it is placed, and an effective time
-pub record Placeable (m : Manager) (store t : ℕ) (a : Arrival) (body i : ℕ) : Type 0 where
+-- a node, where a region of the store starts, the route that it is of, the length of the store, and a record that is placed there
+pub record Placeable (n : Node) (from : ℕ) (r : Route) (store t : ℕ) (a : Arrival) (body : ℕ) : Type 0 where
+  pub bias : n .bias ≤ 2878
+  pub suitable : Suitable r a body t
+  pub region : from + r .settings .limit ≤ store
+
+-- so it is in a state within its bounds, with all regions in the store, where the record is not lost
+pub record PlaceableAt (m : Manager) (store t : ℕ) (a : Arrival) (body i : ℕ) : Type 0 where
   pub right : stateRight m ≡ true
   pub inside : i < m .count
   pub usable : Usable a
@@ -148,16 +156,27 @@ pub record Placeable (m : Manager) (store t : ℕ) (a : Arrival) (body i : ℕ) 
   pub regions : regions m ≤ store
   pub time : t ≤ 52595999
 
-pub suitable : {m : Manager} {store t : ℕ} {a : Arrival} {body i : ℕ} → Placeable m store t a body i → Suitable (routeAt m i) a body t
-suitable {m} {store} {t} {a} {body} {i} p =
+pub placeable : {m : Manager} {store t : ℕ} {a : Arrival} {body i : ℕ} → PlaceableAt m store t a body i
+    → Placeable (nodeOf m) (base m i) (routeAt m i) store t a body
+placeable {m} {store} {t} {a} {body} {i} p =
     let w = within m (p .right) in
     let s = routeAt m i .settings in
     let l = or-false (eqb (a .mark) 1 || ltb 65534 body) (ltb (s .limit) (aloneSize (s .octets) (headerFor a .release) (recordSize a body))) (p .placed) in
     let k = or-false (eqb (a .mark) 1) (ltb 65534 body) (l .0) in
     record {
-      within = route-later (w .routes i (p .inside)) (w .last);
-      usable = p .usable;
-      short = ltb-false 65534 body (k .1);
-      alone = ltb-false _ _ (l .1);
-      time = p .time;
+      bias = w .bias;
+      suitable =
+          record {
+            within = route-later (w .routes i (p .inside)) (w .last);
+            usable = p .usable;
+            short = ltb-false 65534 body (k .1);
+            alone = ltb-false _ _ (l .1);
+            time = p .time;
+          };
+      region = omega (arith, region-within m i (m .count) (p .inside), regions-all m (w .few), p .regions);
     }
+
+-- the same of a node, a route and a place that are the state's
+pub placeable-as : (m : Manager) (i : ℕ) {n : Node} {from : ℕ} {r : Route} {store t : ℕ} {a : Arrival} {body : ℕ} → n ≡ nodeOf m → from ≡ base m i → r ≡ routeAt m i
+    → Placeable (nodeOf m) (base m i) (routeAt m i) store t a body → Placeable n from r store t a body
+placeable-as m i en eb er p = rw (en, eb, er) p

@@ -6,23 +6,7 @@ use state::OpenFile;
 use state::Route;
 ghost use mathlib.Core.Path.{_≡_};
 ghost use Prim.Native.Nat.{_+_, _≤_, _<_, _^_};
-ghost use Rattle.manager.specs.Rules.{highWith, lowWith, later, earlier, appendedRoute, differs, exceeds, full};
-
-fn later_of(a: Release, b: Release) -> Release
-    ensures { λ r. ⌜ r ≡ later a b ⌝ }
-{
-    let one = record::rank_of(a);
-    let other = record::rank_of(b);
-    if one < other { b } else { a }
-}
-
-fn earlier_of(a: Release, b: Release) -> Release
-    ensures { λ r. ⌜ r ≡ earlier a b ⌝ }
-{
-    let one = record::rank_of(a);
-    let other = record::rank_of(b);
-    if other < one { b } else { a }
-}
+ghost use Rattle.events.specs.Rules.{highWith, lowWith, appendedRoute, differs, exceeds, full};
 
 // High and low of a file with one record more; an empty file takes the record's release, whatever was configured.
 fn high_with(f: OpenFile, r: Release) -> Release
@@ -31,7 +15,9 @@ fn high_with(f: OpenFile, r: Release) -> Release
     if f.count == 0 {
         return r;
     }
-    later_of(f.high, r)
+    let high = record::rank_of(f.high);
+    let new = record::rank_of(r);
+    if high < new { r } else { f.high }
 }
 
 fn low_with(f: OpenFile, r: Release) -> Release
@@ -40,7 +26,9 @@ fn low_with(f: OpenFile, r: Release) -> Release
     if f.count == 0 {
         return r;
     }
-    earlier_of(f.low, r)
+    let low = record::rank_of(f.low);
+    let new = record::rank_of(r);
+    if new < low { r } else { f.low }
 }
 
 // Whether the record closes the open file with 5: the file has records, and another format, or, with the flag, another release.

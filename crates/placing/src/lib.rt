@@ -3,9 +3,9 @@ mod carrying;
 mod file;
 mod planning;
 
-use manager::Arrival;
+use events::Arrival;
 pub use planning::header_for;
-use state::Manager;
+use state::Node;
 use state::Route;
 ghost use mathlib.Core.Path.{_≡_};
 ghost use lib.ListN.{length};
@@ -35,8 +35,8 @@ pub struct Placed {
 fn placed_by(p: Plan, octets: usize) -> Placed
     ensures { λ r. ⌜ r ≡ placedBy p octets ⌝ }
 {
-    let before = manager::either(p.turns, 1, 0);
-    let behind = manager::either(p.fills, 1, 0);
+    let before = refusals::either(p.turns, 1, 0);
+    let behind = refusals::either(p.fills, 1, 0);
     let route = planning::finished(p);
     Placed {
         fits: true,
@@ -46,20 +46,21 @@ fn placed_by(p: Plan, octets: usize) -> Placed
     }
 }
 
-// Places a record on the route i: nothing is done where the files that it closes are longer than the output.
+// Places a record on the route r, whose region starts at `from`: nothing is done where the files that it closes are longer than
+// the output.
 pub fn place(
-    m: Manager,
+    n: Node,
+    from: usize,
+    r: Route,
     store: &mut [u8],
     output: &mut [u8],
     t: u32,
     a: Arrival,
     body: &[u8],
-    i: usize,
 ) -> Placed
-    requires { ⌜ Placeable m (length (now store)) t a (length (now body)) i ⌝ }
-    ensures { λ r. ⌜ left r (now (store .exit)) (now (output .exit)) ≡ placeOf m (now (store .entry)) (now (output .entry)) t a (now (body .entry)) i ⌝ }
+    requires { ⌜ Placeable n from r (length (now store)) t a (length (now body)) ⌝ }
+    ensures { λ p. ⌜ left p (now (store .exit)) (now (output .exit)) ≡ placeOf n from r (now (store .entry)) (now (output .entry)) t a (now (body .entry)) ⌝ }
 {
-    let r = m.routes[i];
     let p = planning::plan_for(r, a, body.len(), t);
     let before = carrying::size_if(p.turns, r);
     let behind = carrying::size_if(p.fills, p.holding);
@@ -73,6 +74,6 @@ pub fn place(
         };
     }
     let h = planning::header_for(a);
-    carrying::carry_out(m, store, output, r, p, h, body, i);
+    carrying::carry_out(n, from, store, output, r, p, h, body);
     placed_by(p, octets)
 }

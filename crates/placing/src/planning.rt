@@ -4,12 +4,12 @@ use crate::file::appended_route;
 use crate::file::does_differ;
 use crate::file::does_exceed;
 use crate::file::is_full;
-use manager::Arrival;
+use events::Arrival;
 use record::RecordHeader;
 use record::Release;
 use state::Route;
 ghost use mathlib.Core.Path.{_≡_};
-ghost use Rattle.manager.specs.Rules.{headerFor};
+ghost use Rattle.events.specs.Rules.{headerFor};
 ghost use Rattle.placing.specs.Plan.{Usable, Suitable, readied, planned, finishedBy};
 
 // The record header that an arrival describes.
@@ -33,13 +33,13 @@ fn ready(r: Route, turns: bool, t: u32) -> Route
     ensures { λ q. ⌜ q ≡ readied r turns t ⌝ }
 {
     if turns {
-        let closed = manager::closed_route(r);
-        return manager::opened_route(closed, t);
+        let closed = events::closed_route(r);
+        return events::opened_route(closed, t);
     }
     if r.open {
         r
     } else {
-        manager::opened_route(r, t)
+        events::opened_route(r, t)
     }
 }
 
@@ -53,7 +53,7 @@ pub fn plan_for(r: Route, a: Arrival, body: usize, t: u32) -> Plan
     let differs = does_differ(r, h);
     let exceeds = does_exceed(r, h, octets);
     let turns = differs | exceeds;
-    let reason = manager::either(differs, 5, 1);
+    let reason = refusals::either(differs, 5, 1);
     let q = ready(r, turns, t);
     let holding = appended_route(q, h, octets as u32, t);
     let fills = is_full(holding);
@@ -71,7 +71,7 @@ pub fn finished(p: Plan) -> Route
     ensures { λ q. ⌜ q ≡ finishedBy p ⌝ }
 {
     if p.fills {
-        return manager::closed_route(p.holding);
+        return events::closed_route(p.holding);
     }
     p.holding
 }

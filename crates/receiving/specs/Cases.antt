@@ -9,19 +9,21 @@ use lib.Dec.{eqb, ltb}
 use lib.ListN.{length}
 use borrow.Author.Tests.{ltb-false, le-ltb, eq-eqb, not-false}
 use Rattle.refusals.specs.Refusal.{Rule, _when_, first, passed, or-false}
-use Rattle.state.specs.declared.Manager.{Manager}
+use Rattle.state.specs.declared.Node.{Node}
+use Rattle.state.specs.declared.Route.{Route}
+use Rattle.state.specs.Manager.{Manager}
 use Rattle.state.specs.declared.Routed.{Routed}
-use Rattle.state.specs.Manager.{routeAt, regions, effective}
+use Rattle.state.specs.Manager.{routeAt, nodeOf, base, regions, effective}
 use Rattle.state.specs.Routing.{nobody, routeOf}
 use Rattle.state.specs.Longest.{longest-found}
 use Rattle.state.specs.Bounds.{stateRight}
-use Rattle.manager.specs.declared.Arrival.{Arrival}
-use Rattle.manager.specs.declared.Outcome.{Outcome}
-use Rattle.manager.specs.Rules.{wrongFields, routedTo}
-use Rattle.manager.specs.Events.{After, after, changed, refused, settled, common}
-use Rattle.manager.specs.Receive.{isLost, needed, countersFull, taken, placedSize, unrouted, lostAt, placedAt, receiveOf}
+use Rattle.events.specs.declared.Arrival.{Arrival}
+use Rattle.events.specs.Rules.{openedRoute, closedRoute, full, wrongFields, routedTo}
+use Rattle.events.specs.Events.{Outcome, After, after, changed, refused, settled}
+use Rattle.state.specs.Common.{common}
+use Rattle.events.specs.Receive.{isLost, turns, holding, finished, storeWith, needed, countersFull, taken, placedSize, placedFiles, unrouted, lostAt, placedAt, receiveOf}
 use Rattle.placing.specs.Plan.{Usable}
-use Rattle.placing.specs.Made.{Left, placeOf}
+use Rattle.placing.specs.Made.{Left, placeOf, placed-there}
 
 -- with mark 1 the fields of a record are not judged
 abbrev pub UsableUnlessMarked : Arrival → Type 0
@@ -85,14 +87,21 @@ toldOf m t i p =
     (p .store)
     (p .output)
 
-told-placed : (m : Manager) (store output : List ℕ) (t : ℕ) (a : Arrival) (body : List ℕ) (i : ℕ)
-    → toldOf m t i (placeOf m store output t a body i) ≡ placedOr m store output t a body i
-told-placed m store output t a body i = go (ltb (length output) (placedSize (routeAt m i) a (length body) t)) refl
+told-placed : (m : Manager) (store output : List ℕ) (t : ℕ) (a : Arrival) (body : List ℕ) (i : ℕ) → i < length (m .routes)
+    → toldOf m t i (placeOf (nodeOf m) (base m i) (routeAt m i) store output t a body) ≡ placedOr m store output t a body i
+told-placed m store output t a body i there =
+    go (ltb (length output) (placedSize (routeAt m i) a (length body) t)) refl
   where
     go : (b : Bool) → ltb (length output) (placedSize (routeAt m i) a (length body) t) ≡ b
-        → toldOf m t i (placeOf m store output t a body i) ≡ placedOr m store output t a body i
+        → toldOf m t i (placeOf (nodeOf m) (base m i) (routeAt m i) store output t a body) ≡ placedOr m store output t a body i
     go true e = rw e
-    go false e = rw e
+    go false e =
+        rw e
+        (ap
+        (after
+        (changed m t i (finished (routeAt m i) a (length body) t) 2 (placedFiles (routeAt m i) a (length body) t) (placedSize (routeAt m i) a (length body) t))
+        (storeWith m store i a body t))
+        (placed-there m store output t a body i there))
 
 -- The shape of the definition, over its conditions: first 18, 16 and 4.
 module _ (b18 b16 b4 : Bool) where
@@ -242,19 +251,59 @@ module _ (m : Manager) (store output : List ℕ) (time : ℕ) (a : Arrival) (key
         receive-lost e =
             found-lost (size to) m store output (lose to) (put to) pass u (l to) (lostAt m [] [] (effective m time) (to .at) .outcome) refl f e ∙ left-of r
 
-        module _ (e : isLost m a (to .at) (length body) ≡ false) {t : ℕ} (et : t ≡ effective m time) {q : Left} (eq : q ≡ placeOf m store output t a body (to .at)) where
+        module _ (e : isLost m a (to .at) (length body) ≡ false) {t from : ℕ} {n : Node} {route : Route} (et : t ≡ effective m time) (en : n ≡ nodeOf m)
+            (eb : from ≡ base m (to .at)) (er : route ≡ routeAt m (to .at)) (there : to .at < length (m .routes))
+            {q : Left} (eq : q ≡ placeOf n from route store output t a body) where
           told-receive : toldOf m t (to .at) q ≡ receiveOf m store output time a key body
           told-receive =
               ap (toldOf m t (to .at)) eq
-              ∙ (λ i. toldOf m (et i) (to .at) (placeOf m store output (et i) a body (to .at)))
-              ∙ told-placed m store output (effective m time) a body (to .at)
+              ∙ (λ i. toldOf m (et i) (to .at) (placeOf (en i) (eb i) (er i) store output (et i) a body))
+              ∙ told-placed m store output (effective m time) a body (to .at) there
               ∙ found-placed (size to) m store output (lose to) (put to) pass u (l to) f e
               ∙ left-of r
 
-          pub receive-short : q .placed .fits ≡ false → {o : Outcome} → o ≡ refused 17 (q .placed .octets) m
-              → after o (q .store) (q .output) ≡ receiveOf m store output time a key body
-          receive-short b eo = ap (λ (x : Outcome). after x (q .store) (q .output)) (eo ∙ sym (rw b)) ∙ told-receive
+          pub receive-short : q .placed .fits ≡ false → after (refused 17 (q .placed .octets) m) (q .store) (q .output) ≡ receiveOf m store output time a key body
+          receive-short b = ap (λ (x : Outcome). after x (q .store) (q .output)) (sym (rw b)) ∙ told-receive
 
-          pub receive-placed : q .placed .fits ≡ true → {o : Outcome} → o ≡ changed m t (to .at) (q .placed .route) 2 (q .placed .files) (q .placed .octets)
-              → after o (q .store) (q .output) ≡ receiveOf m store output time a key body
-          receive-placed b eo = ap (λ (x : Outcome). after x (q .store) (q .output)) (eo ∙ sym (rw b)) ∙ told-receive
+          pub receive-placed : q .placed .fits ≡ true
+              → after (changed m t (to .at) (q .placed .route) 2 (q .placed .files) (q .placed .octets)) (q .store) (q .output) ≡ receiveOf m store output time a key body
+          receive-placed b = ap (λ (x : Outcome). after x (q .store) (q .output)) (sym (rw b)) ∙ told-receive
+
+-- The route that a placing leaves: its settings are as they were, and its times are below bit 31.
+module _ (n : Node) (from : ℕ) (r : Route) (store output : List ℕ) (t : ℕ) (a : Arrival) (body : List ℕ) {q : Left} (e : q ≡ placeOf n from r store output t a body) (f : q .placed .fits ≡ true) where
+  -- refused, nothing would fit
+  pub placed-route : q .placed .route ≡ finished r a (length body) t
+  placed-route = go (ltb (length output) (placedSize r a (length body) t)) refl
+    where
+      go : (b : Bool) → ltb (length output) (placedSize r a (length body) t) ≡ b → q .placed .route ≡ finished r a (length body) t
+      go true p = absurd (true≢false (sym f ∙ ap (λ (x : Left). x .placed .fits) e ∙ rw p))
+      go false p = ap (λ (x : Left). x .placed .route) e ∙ rw p
+
+-- the settings stay
+ready-settings : (r : Route) (t : ℕ) (b o : Bool) → cond b (openedRoute (closedRoute r) t) (cond o r (openedRoute r t)) .settings ≡ r .settings
+ready-settings r t true o = refl
+ready-settings r t false true = refl
+ready-settings r t false false = refl
+
+either-settings : (b : Bool) (h : Route) → cond b (closedRoute h) h .settings ≡ h .settings
+either-settings true h = refl
+either-settings false h = refl
+
+pub finished-settings : (r : Route) (a : Arrival) (body t : ℕ) → finished r a body t .settings ≡ r .settings
+finished-settings r a body t =
+    either-settings (full (holding r a body t)) (holding r a body t) ∙ ready-settings r t (turns r a body) (r .«open»)
+
+-- the times
+module _ (r : Route) (t : ℕ) (opened : r .file .opened < 2147483648) (early : t < 2147483648) where
+  ready-opened : (b o : Bool) → cond b (openedRoute (closedRoute r) t) (cond o r (openedRoute r t)) .file .opened < 2147483648
+  ready-opened true o = early
+  ready-opened false true = opened
+  ready-opened false false = early
+
+  pub finished-early : (a : Arrival) (body : ℕ) → (finished r a body t .file .opened < 2147483648) × (finished r a body t .file .appended < 2147483648)
+  finished-early a body = go (full (holding r a body t))
+    where
+      go : (b : Bool) → (cond b (closedRoute (holding r a body t)) (holding r a body t) .file .opened < 2147483648)
+          × (cond b (closedRoute (holding r a body t)) (holding r a body t) .file .appended < 2147483648)
+      go true = (omega arith, omega arith)
+      go false = (ready-opened (turns r a body) (r .«open»), early)

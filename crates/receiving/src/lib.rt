@@ -1,15 +1,15 @@
 // RECEIVE on any state, store and output (document 01, Routing and loss, The events): a record is unrouted, lost or placed.
 mod pass;
 
-use manager::Arrival;
-use manager::Outcome;
-use state::Manager;
+use events::Answer;
+use events::Arrival;
 use state::Routed;
 ghost use mathlib.Core.Path.{_≡_};
+ghost use lib.ListN.{length};
 ghost use Rattle.state.specs.Routing.{Routable};
-ghost use Rattle.manager.specs.Rules.{wrongFields, routedTo};
-ghost use Rattle.manager.specs.Events.{after};
-ghost use Rattle.manager.specs.Receive.{receiveOf};
+ghost use Rattle.words.specs.Words.{managerIn};
+ghost use Rattle.events.specs.Rules.{wrongFields, routedTo};
+ghost use Rattle.events.specs.Lent.{left, receiveOn};
 
 // Whether the mark, the key's length or the record's fields are wrong: refusal 5.
 fn wrong_fields(a: Arrival, key: usize) -> bool
@@ -25,10 +25,10 @@ fn wrong_fields(a: Arrival, key: usize) -> bool
                 | ((a.release < 7) & !(a.extension == 0))))
 }
 
-// Where a record goes: mark 2 says that nothing is to be trusted, its key neither.
-fn routed_to(m: Manager, a: Arrival, key: &[u8]) -> Routed
-    requires { ⌜ Routable m ⌝ }
-    ensures { λ r. ⌜ r ≡ routedTo m a (now (key .entry)) ⌝ }
+// Where a record goes: mark 2 says that nothing is to be trusted.
+fn routed_to(words: &[u32], a: Arrival, key: &[u8]) -> Routed
+    requires { ⌜ (length (now words) ≡ 152) × Routable (managerIn (now words)) ⌝ }
+    ensures { λ r. ⌜ r ≡ routedTo (managerIn (now (words .entry))) a (now (key .entry)) ⌝ }
 {
     if a.mark == 2 {
         return Routed {
@@ -37,42 +37,47 @@ fn routed_to(m: Manager, a: Arrival, key: &[u8]) -> Routed
             octets: 0,
         };
     }
-    state::route_of(m, key)
+    routing::route_of(words, key)
 }
 
-// RECEIVE. 18, 16 and 4 are told first, so that behind them the state can be relied on; then 5; and each of the three outcomes
-// tells its own refusal: 19 where a counter would rise, 17 where files close.
+// A record is unrouted, lost or placed.
 pub fn receive(
-    m: Manager,
+    words: &mut [u32],
     store: &mut [u8],
     output: &mut [u8],
     time: u32,
     a: Arrival,
     key: &[u8],
     body: &[u8],
-) -> Outcome
-    ensures { λ r. ⌜ after r (now (store .exit)) (now (output .exit)) ≡ receiveOf m (now (store .entry)) (now (output .entry)) time a (now (key .entry)) (now (body .entry)) ⌝ }
+) -> Answer
+    ensures { λ r. ⌜ left r (now (words .exit)) (now (store .exit)) (now (output .exit)) ≡ receiveOn (now (words .entry)) (now (store .entry)) (now (output .entry)) time a (now (key .entry)) (now (body .entry)) ⌝ }
 {
-    let number = manager::common_refusal(m, store.len(), time);
+    if words.len() != 152 {
+        return events::refuse(18, 0);
+    }
+    let number = judging::common_refusal(words, store.len(), time);
     if number != 0 {
-        return manager::refuse(m, number, 0);
+        return events::refuse(number, 0);
     }
     if wrong_fields(a, key.len()) {
-        return manager::refuse(m, 5, 0);
+        return events::refuse(5, 0);
     }
-    let t = state::effective_time(m, time);
-    let to = routed_to(m, a, key);
+    let t = state::effective_time(words[6], time);
+    let to = routed_to(words, a, key);
     if !to.found {
-        return pass::unrouted(m, t);
+        return pass::unrouted(words, t);
     }
     let i = to.at as usize;
-    let r = m.routes[i];
+    let r = words::route_at(words, i);
     if pass::is_lost(r.settings, a, body.len()) {
-        return pass::lost(m, t, i);
+        return pass::lost(words, t, i, r);
     }
-    let p = placing::place(m, store, output, t, a, body, i);
+    let n = words::node_of(words);
+    let from = judging::region_base(words, i);
+    let p = placing::place(n, from, r, store, output, t, a, body);
     if !p.fits {
-        return manager::refuse(m, 17, p.octets);
+        return events::refuse(17, p.octets);
     }
-    manager::changed(m, t, i, p.route, 2, p.files, p.octets)
+    words::put(words, i, p.route, t);
+    events::accept(2, to.at, p.files, p.octets)
 }

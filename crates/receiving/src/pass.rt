@@ -1,16 +1,16 @@
 // Records that no file takes (document 01, Routing and loss): unrouted ones and lost ones. They open and close nothing.
-use manager::Answer;
-use manager::Arrival;
-use manager::Outcome;
-use state::Manager;
+use events::Answer;
+use events::Arrival;
 use state::Route;
 use state::RouteSettings;
 ghost use mathlib.Core.Path.{_≡_};
-ghost use Prim.Native.Nat.{_≤_, _<_};
+ghost use Prim.Native.Nat.{_≤_};
+ghost use lib.ListN.{length};
 ghost use Rattle.state.specs.Loss.{lost};
-ghost use Rattle.manager.specs.Rules.{headerFor, lostRoute, notedRoute};
-ghost use Rattle.manager.specs.Receive.{noted};
+ghost use Rattle.words.specs.Words.{managerIn, wordsOf};
+ghost use Rattle.events.specs.Rules.{headerFor};
 ghost use Rattle.receiving.specs.Cases.{UsableUnlessMarked, unroutedOr, lostOr};
+ghost use Rattle.receiving.specs.Told.{told, toldWords, ReadAt, notedTo};
 
 // Whether a record routed to a route of these settings is lost. With mark 1 the fields are not judged and may be of any size,
 // so that mark is told first.
@@ -25,70 +25,46 @@ pub fn is_lost(s: RouteSettings, a: Arrival, body: usize) -> bool
     state::is_lost(s, a.mark, h.release, body)
 }
 
-fn noted_route(mut r: Route) -> Route
-    ensures { λ q. ⌜ q ≡ notedRoute r ⌝ }
+// Notes an unrouted record on the routes below n.
+fn note_routes(words: &mut [u32], n: usize)
+    requires { ⌜ (length (now words) ≡ 152) × (n ≤ 8) ⌝ }
+    ensures { λ _. ⌜ now (words .exit) ≡ wordsOf (notedTo (managerIn (now (words .entry))) n) ⌝ }
 {
-    r.note = true;
-    r
-}
-
-// The routes, with the note of an unrouted record on all that are configured.
-fn noted_routes(m: Manager) -> [Route; 8]
-    requires { ⌜ m .count ≤ 8 ⌝ }
-    ensures { λ q. ⌜ q ≡ noted m (m .count) ⌝ }
-{
-    let n = m.count as usize;
-    let mut routes = m.routes;
     let mut i: usize = 0;
     while i < n {
-        let r = m.routes[i];
-        routes[i] = noted_route(r);
+        let mut r = words::route_at(words, i);
+        r.note = true;
+        words::put_route(words, i, r);
         i += 1;
     }
-    routes
 }
 
-// An unrouted record: counted and noted, or 19 where its counter would rise past 32 bits.
-pub fn unrouted(mut m: Manager, t: u32) -> Outcome
-    requires { ⌜ m .count ≤ 8 ⌝ }
-    ensures { λ r. ⌜ r ≡ unroutedOr m t ⌝ }
+// An unrouted record is counted, and noted on every configured route.
+pub fn unrouted(words: &mut [u32], t: u32) -> Answer
+    requires { ⌜ (length (now words) ≡ 152) × (managerIn (now words) .count ≤ 8) ⌝ }
+    ensures { λ r. ⌜ told r (now (words .exit)) ≡ toldWords (unroutedOr (managerIn (now (words .entry))) t) ⌝ }
 {
-    if m.unrouted == 4294967295 {
-        return manager::refuse(m, 19, 0);
+    let unrouted = words[7];
+    if unrouted == 4294967295 {
+        return events::refuse(19, 0);
     }
-    let routes = noted_routes(m);
-    m.routes = routes;
-    m.last = t;
-    m.unrouted = m.unrouted + 1;
-    Outcome {
-        answer: Answer {
-            refusal: 0,
-            outcome: 4,
-            route: 255,
-            files: 0,
-            octets: 0,
-        },
-        manager: m,
-    }
+    let more = unrouted + 1;
+    let n = words::count_of(words);
+    note_routes(words, n);
+    words[6] = t;
+    words[7] = more;
+    events::accept(4, 255, 0, 0)
 }
 
-fn lost_route(mut r: Route) -> Route
-    requires { ⌜ r .losses < 4294967295 ⌝ }
-    ensures { λ q. ⌜ q ≡ lostRoute r ⌝ }
+// A lost record is counted on its route i, which is r.
+pub fn lost(words: &mut [u32], t: u32, i: usize, mut r: Route) -> Answer
+    requires { ⌜ ReadAt (now words) i r ⌝ }
+    ensures { λ o. ⌜ told o (now (words .exit)) ≡ toldWords (lostOr (managerIn (now (words .entry))) t i) ⌝ }
 {
-    r.losses = r.losses + 1;
-    r
-}
-
-// A lost record: one more known loss of its route, or 19 where that counter would rise past 32 bits.
-pub fn lost(m: Manager, t: u32, i: usize) -> Outcome
-    requires { ⌜ i < 8 ⌝ }
-    ensures { λ r. ⌜ r ≡ lostOr m t i ⌝ }
-{
-    let r = m.routes[i];
     if r.losses == 4294967295 {
-        return manager::refuse(m, 19, 0);
+        return events::refuse(19, 0);
     }
-    let c = lost_route(r);
-    manager::changed(m, t, i, c, 3, 0, 0)
+    r.losses = r.losses + 1;
+    words::put(words, i, r, t);
+    events::accept(3, i as u8, 0, 0)
 }

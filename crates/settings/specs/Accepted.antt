@@ -13,11 +13,11 @@ use lib.Seq.{getD-set-same, getD-set-other}
 use borrow.Author.Tests.{ltb-false, le-leb, not-false}
 use Rattle.octets.specs.Number.{num}
 use Rattle.refusals.specs.Refusal.{_when_, passed, or-false}
-use Rattle.refusals.specs.Tests.{both}
+use Rattle.refusals.specs.Below.{below-each, below-all}
 use Rattle.state.specs.declared.Route.{Route}
 use Rattle.state.specs.Manager.{noRoute, routeAt}
-use Rattle.state.specs.Bounds.{settingsRight, distinct, routeRight, routesRight, stateRight}
-use Rattle.settings.specs.Settings.{routesIn, routeStart, wrongShape, beyondRange, equalFilters, inRange, settingsFrom, routeFrom, unusedRoute, routesFrom, managerFrom, noManager, settled, verdict, freshOf}
+use Rattle.state.specs.Bounds.{settingsRight, distinct, routeRight, rightAt, routesRight, stateRight}
+use Rattle.settings.specs.Settings.{routesIn, routeStart, wrongShape, beyondRange, equalFilters, inRangeAt, inRange, settingsFrom, routeFrom, unusedRoute, routesFrom, managerFrom, noManager, settled, verdict, freshOf}
 use Rattle.settings.specs.Cases.{Shaped, shaped}
 
 -- the routes are eight, and the configured ones are those of the octets
@@ -39,22 +39,9 @@ route-from xs (suc n) i h m = elim (ℕ-discrete i n) [
 fresh-right : (xs : List ℕ) (k : ℕ) {r : Route} → r ≡ routeFrom xs k → settingsRight (settingsFrom xs k) ≡ true → routeRight 0 r ≡ true
 fresh-right xs k e s = ap (routeRight 0) e ∙ rw s
 
-range-right : (xs : List ℕ) (m n : ℕ) → n ≤ m → m ≤ 8 → inRange xs n ≡ true → routesRight (managerFrom xs m) n ≡ true
-range-right xs m zero h b e = refl
-range-right xs m (suc n) h b e =
-    let t = both (inRange xs n) (settingsRight (settingsFrom xs (routeStart n))) e in
-    let before = range-right xs m n (omega arith) b (t .0) in
-    let here = fresh-right xs (routeStart n) (route-from xs m n (omega arith) b) (t .1) in
-    rw (before, here)
-
-each-range : (xs : List ℕ) (n i : ℕ) → i < n → inRange xs n ≡ true → settingsRight (settingsFrom xs (routeStart i)) ≡ true
-each-range xs zero i h e = absurd (omega arith)
-each-range xs (suc n) i h e =
-    let t = both (inRange xs n) (settingsRight (settingsFrom xs (routeStart n))) e in
-    elim (ℕ-discrete i n) [
-      | yes p ↦ rw p (t .1)
-      | no p ↦ each-range xs n i (omega arith) (t .0)
-    ]
+range-right : (xs : List ℕ) (n : ℕ) → n ≤ 8 → inRange xs n ≡ true → routesRight (managerFrom xs n) n ≡ true
+range-right xs n b e =
+    below-all (rightAt (managerFrom xs n)) n (λ i h. fresh-right xs (routeStart i) (route-from xs n i h b) (below-each (inRangeAt xs) n e i h))
 
 -- What accepted settings say.
 pub record Accepted (xs : List ℕ) : Type 0 where
@@ -96,14 +83,14 @@ module _ (xs : List ℕ) where
   accepted-right e =
       let a = accepted e in
       let n = routesIn xs in
-      rw (le-leb 1 n (a .shape .some), le-leb n 8 (a .shape .most), le-leb (num 2 xs 17) 2878 (a .bias), range-right xs n n (omega arith) (a .shape .most) (a .range), a .filters)
+      rw (le-leb 1 n (a .shape .some), le-leb n 8 (a .shape .most), le-leb (num 2 xs 17) 2878 (a .bias), range-right xs n (a .shape .most) (a .range), a .filters)
 
   -- its routes are those of the octets, each in range
   pub accepted-route : verdict xs ≡ 0 → (i : ℕ) → i < routesIn xs → routeAt (managerFrom xs (routesIn xs)) i ≡ routeFrom xs (routeStart i)
   accepted-route e i h = route-from xs (routesIn xs) i h (accepted e .shape .most)
 
   pub accepted-settings : verdict xs ≡ 0 → (i : ℕ) → i < routesIn xs → settingsRight (settingsFrom xs (routeStart i)) ≡ true
-  accepted-settings e i h = each-range xs (routesIn xs) i h (accepted e .range)
+  accepted-settings e i h = below-each (inRangeAt xs) (routesIn xs) (accepted e .range) i h
 
 -- the state of a refusal is not within its bounds
 pub refused-wrong : stateRight noManager ≡ false

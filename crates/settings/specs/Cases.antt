@@ -1,25 +1,21 @@
 -- The cases of a fresh manager that the code meets (document 01, Settings and Refusals): which of refusals 1, 2 and 3 comes,
 -- or the manager; and what settings of the right shape say of their length. Assumes nothing.
-use mathlib.Core.Path.{_≡_, sym, ap, _∙_}
+use mathlib.Core.Path.{_≡_, refl, sym, ap, _∙_}
 use mathlib.Core.Bool.{Bool, true, false, not, _||_}
-use mathlib.Core.List.{List}
-use Prim.Native.Nat.{ℕ, _≤_, _<_}
+use mathlib.Core.List.{List, []}
+use Prim.Native.Nat.{ℕ, zero, suc, _+_, _*_, _≤_, _<_}
+use native.Mathlib.Numerals.{add-one}
 use native.Mathlib.Omega.{arith}
 use lib.Dec.{ltb, eqb}
-use lib.ListN.{length, getD}
+use lib.ListN.{length, getD, replicate, length-set, length-replicate}
 use borrow.Author.Tests.{lt-ltb, le-ltb, eq-eqb, ne-eqb, ltb-false, eqb-true, not-false}
+use Rattle.octets.specs.Splice.{splice}
 use Rattle.refusals.specs.Refusal.{or-false}
-use Rattle.state.specs.declared.RouteSettings.{RouteSettings}
-use Rattle.state.specs.declared.Route.{Route}
-use Rattle.state.specs.declared.Manager.{Manager}
-use Rattle.state.specs.Manager.{noFile}
+use Rattle.state.specs.Manager.{Manager}
 use Rattle.state.specs.Bounds.{distinct}
-use Rattle.settings.specs.declared.Fresh.{Fresh}
-use Rattle.settings.specs.Settings.{routesIn, routeStart, kinds, wrongShape, beyondRange, equalFilters, managerFrom, noManager, verdict, freshOf}
-
--- a route with nothing open, lost or noted
-abbrev pub closedRoute : RouteSettings → ℕ → Route
-closedRoute s next = record { settings = s; next = next; losses = 0; note = false; «open» = false; file = noFile }
+use Rattle.words.specs.Words.{routeWords, nodeWords, wordsOf}
+use Rattle.words.specs.Laws.{words-length, filled-words, node-words}
+use Rattle.settings.specs.Settings.{Fresh, routeFrom, unusedRoute, nodeFrom, routesFrom, routesIn, routeStart, kinds, wrongShape, beyondRange, equalFilters, managerFrom, noManager, verdict, freshOf}
 
 -- a refusal carries its number, and the one state that goes with it
 abbrev pub refusedFresh : ℕ → Fresh
@@ -80,16 +76,41 @@ module _ (xs : List ℕ) where
   unfolding freshOf verdict
   fresh-range w b = rw (w, b)
 
-  module _ (w : wrongShape xs ≡ false) (b : beyondRange xs ≡ false) {m : Manager} {d : Bool} (em : m ≡ managerFrom xs (routesIn xs))
-      (ed : d ≡ distinct m (routesIn xs)) where
+  module _ (w : wrongShape xs ≡ false) (b : beyondRange xs ≡ false) {d : Bool} (ed : d ≡ distinct (managerFrom xs (routesIn xs)) (routesIn xs)) where
     filters-are : equalFilters xs ≡ not d
     unfolding equalFilters
-    filters-are = (λ i. not (distinct (sym em i) (routesIn xs))) ∙ sym (ap not ed)
+    filters-are = sym (ap not ed)
 
     pub fresh-equal : d ≡ false → freshOf xs ≡ refusedFresh 3
     unfolding freshOf verdict
     fresh-equal e = rw (w, b, filters-are ∙ ap not e)
 
-    pub fresh-taken : d ≡ true → freshOf xs ≡ record { refusal = 0; manager = m }
+    pub fresh-taken : d ≡ true → freshOf xs ≡ record { refusal = 0; manager = managerFrom xs (routesIn xs) }
     unfolding freshOf verdict
-    fresh-taken e = rw (w, b, filters-are ∙ ap not e) (λ i. record { refusal = 0; manager = sym em i })
+    fresh-taken e = rw (w, b, filters-are ∙ ap not e)
+
+-- The state's words as they are made: the routes first, of a state that is otherwise that of a refusal, and then the node.
+abbrev pub blank : List ℕ → ℕ → Manager
+blank xs n = record { routes = routesFrom xs n; count = 0; address = replicate 16 0; bias = 0; last = 0; unrouted = 0 }
+
+pub blank-words : (xs : List ℕ) → replicate 152 0 ≡ wordsOf (blank xs 0)
+unfolding wordsOf
+blank-words xs = refl
+
+eight : (ys : List ℕ) (n : ℕ) → length (routesFrom ys n) ≡ 8
+eight ys zero = length-replicate 8 unusedRoute
+eight ys (suc n) = length-set (routesFrom ys n) n (routeFrom ys (routeStart n)) ∙ eight ys n
+
+pub blank-length : (xs : List ℕ) (i : ℕ) {l : List ℕ} → l ≡ wordsOf (blank xs i) → length l ≡ 152
+blank-length xs i e = ap length e ∙ words-length (blank xs i) (eight xs i)
+
+pub next-words : (xs : List ℕ) (i : ℕ) → i < 8 → {l r : List ℕ} → l ≡ wordsOf (blank xs i) → r ≡ routeWords (routeFrom xs (routeStart i)) []
+    → splice l (8 + 18 * i) r ≡ wordsOf (blank xs (i + 1))
+next-words xs i h el er =
+    let there : i < length (routesFrom xs i) = rw (eight xs i) h in
+    (λ j. splice (el j) (8 + 18 * i) (er j))
+    ∙ filled-words (blank xs i) i (routeFrom xs (routeStart i)) there
+    ∙ ap (λ (k : ℕ). wordsOf (blank xs k)) (sym (add-one i))
+
+pub whole-words : (xs : List ℕ) (n : ℕ) {l node : List ℕ} → l ≡ wordsOf (blank xs n) → node ≡ nodeWords (nodeFrom xs) n [] → splice l 0 node ≡ wordsOf (managerFrom xs n)
+whole-words xs n el en = (λ j. splice (el j) 0 (en j)) ∙ node-words (blank xs n) (nodeFrom xs) n

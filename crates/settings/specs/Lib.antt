@@ -1,4 +1,5 @@
 pub mod Settings
-pub mod Parts
+pub mod Written
 pub mod Cases
 pub mod Accepted
+pub mod Held

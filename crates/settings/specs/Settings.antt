@@ -4,19 +4,22 @@
 -- limit 4, open-time limit 4, most records 4, flag 1, release and version 1, extension 1, first sequence number 4); so the
 -- octets are one node and 1 to 8 routes exactly when their number is 19 + 41 n with n from 1 to 8 and each kind stands in its
 -- place: any other kind, a cut, another order or count is 1. Octets that are not there count as 0. Assumes nothing.
-use mathlib.Core.Bool.{Bool, true, false, not, _&&_, _||_}
+use mathlib.Core.Bool.{Bool, false, not, _||_}
 use mathlib.Core.List.{List, [], _∷_}
 use Prim.Native.Nat.{ℕ, zero, suc, _+_, _*_, _-_, _/_, _%_}
 use lib.Dec.{ltb, eqb}
 use lib.ListN.{length, getD, set, replicate}
 use Rattle.octets.specs.Number.{num, octetsAt}
 use Rattle.refusals.specs.Refusal.{_when_, first}
+use Rattle.refusals.specs.Below.{allBelow}
 use Rattle.state.specs.declared.RouteSettings.{RouteSettings}
 use Rattle.state.specs.declared.Route.{Route}
-use Rattle.state.specs.declared.Manager.{Manager}
+use Rattle.state.specs.declared.Node.{Node}
+use Rattle.state.specs.Manager.{Manager}
 use Rattle.state.specs.Manager.{noRelease, noFile}
 use Rattle.state.specs.Bounds.{settingsRight, distinct}
-use Rattle.settings.specs.declared.Fresh.{Fresh}
+use Rattle.words.specs.Words.{wordsOf}
+use Rattle.settings.specs.declared.Loaded.{Loaded}
 
 -- how many routes so many octets have, and where a route's octets start
 abbrev pub routesIn : List ℕ → ℕ
@@ -26,9 +29,11 @@ abbrev pub routeStart : ℕ → ℕ
 routeStart i = 19 + 41 * i
 
 -- the kinds of the routes below n are 2
+abbrev pub kindAt : List ℕ → ℕ → Bool
+kindAt xs i = eqb (getD xs (routeStart i) 0) 2
+
 abbrev pub kinds : List ℕ → ℕ → Bool
-kinds xs zero = true
-kinds xs (suc n) = kinds xs n && eqb (getD xs (routeStart n) 0) 2
+kinds xs n = allBelow (kindAt xs) n
 
 -- 1: unknown kind, cut, wrong order or count
 unfoldable pub wrongShape : List ℕ → Bool
@@ -74,14 +79,20 @@ abbrev pub routesFrom : List ℕ → ℕ → List Route
 routesFrom xs zero = replicate 8 unusedRoute
 routesFrom xs (suc n) = set (routesFrom xs n) n (routeFrom xs (routeStart n))
 
+-- the node
+abbrev pub nodeFrom : List ℕ → Node
+nodeFrom xs = record { address = octetsAt 16 xs 1; bias = num 2 xs 17 }
+
 abbrev pub managerFrom : List ℕ → ℕ → Manager
 managerFrom xs n =
-    record { routes = routesFrom xs n; count = n; address = octetsAt 16 xs 1; bias = num 2 xs 17; last = 0; unrouted = 0 }
+    record { routes = routesFrom xs n; count = n; address = nodeFrom xs .address; bias = nodeFrom xs .bias; last = 0; unrouted = 0 }
 
 -- the settings of the routes below n are in range
+abbrev pub inRangeAt : List ℕ → ℕ → Bool
+inRangeAt xs i = settingsRight (settingsFrom xs (routeStart i))
+
 abbrev pub inRange : List ℕ → ℕ → Bool
-inRange xs zero = true
-inRange xs (suc n) = inRange xs n && settingsRight (settingsFrom xs (routeStart n))
+inRange xs n = allBelow (inRangeAt xs) n
 
 -- 2: a value beyond its range
 unfoldable pub beyondRange : List ℕ → Bool
@@ -95,6 +106,11 @@ equalFilters xs = not (distinct (managerFrom xs (routesIn xs)) (routesIn xs))
 abbrev pub noManager : Manager
 noManager = record { routes = replicate 8 unusedRoute; count = 0; address = replicate 16 0; bias = 0; last = 0; unrouted = 0 }
 
+-- a refusal, or 0, and the state that goes with it
+pub record Fresh : Type 0 where
+  pub refusal : ℕ
+  pub manager : Manager
+
 abbrev pub settled : ℕ → List ℕ → Fresh
 settled zero xs = record { refusal = 0; manager = managerFrom xs (routesIn xs) }
 settled (suc n) xs = record { refusal = suc n; manager = noManager }
@@ -104,3 +120,10 @@ verdict xs = first ((1 when wrongShape xs) ∷ (2 when beyondRange xs) ∷ (3 wh
 
 unfoldable pub freshOf : List ℕ → Fresh
 freshOf xs = settled (verdict xs) xs
+
+-- the same as words, as the call answers it
+abbrev pub worded : Fresh → Loaded
+worded f = record { refusal = f .refusal; words = wordsOf (f .manager) }
+
+abbrev pub loadedOf : List ℕ → Loaded
+loadedOf xs = worded (freshOf xs)

@@ -1,26 +1,29 @@
 -- Refusal 18 (document 01, Refusals): which states are within their bounds. Routes beyond the configured number, a closed
 -- route's file fields and the store's content are not judged. It is loose on purpose: every call is total on what passes, and
 -- equals its definition there, reachable or not. Assumes nothing.
-use mathlib.Core.Bool.{Bool, true, not, _&&_, _||_}
+use mathlib.Core.Bool.{Bool, not, _&&_, _||_}
 use mathlib.Core.List.{List, [], _∷_}
-use Prim.Native.Nat.{ℕ, zero, suc, _+_, _*_}
+use Prim.Native.Nat.{ℕ, _+_, _*_}
 use lib.Dec.{ltb, leb, eqb}
 use lib.ListN.{getD}
 use Rattle.octets.specs.Alike.{alike}
 use Rattle.refusals.specs.Tests.{allOf}
+use Rattle.refusals.specs.Below.{allBelow}
 use Rattle.record.specs.declared.Release.{Release}
 use Rattle.record.specs.Release.{narrowRelease, rank}
 use Rattle.state.specs.declared.RouteSettings.{RouteSettings}
 use Rattle.state.specs.declared.OpenFile.{OpenFile}
 use Rattle.state.specs.declared.Route.{Route}
-use Rattle.state.specs.declared.Manager.{Manager}
+use Rattle.state.specs.Manager.{Manager}
 use Rattle.state.specs.Manager.{routeAt, settingsAt}
 use Rattle.state.specs.Size.{headerSize}
 
--- the octets of the filter from n on, down to k of them, are 0
+-- the octets of the filter from n on, up to its k-th, are 0
+abbrev pub zeroAt : List ℕ → ℕ → ℕ → Bool
+zeroAt filter n j = ltb j n || eqb (getD filter j 0) 0
+
 abbrev pub zeroFrom : List ℕ → ℕ → ℕ → Bool
-zeroFrom filter n zero = true
-zeroFrom filter n (suc k) = zeroFrom filter n k && (ltb k n || eqb (getD filter k 0) 0)
+zeroFrom filter n k = allBelow (zeroAt filter n) k
 
 -- a route's settings in range: refusal 2 of settings
 abbrev pub settingsTests : RouteSettings → List Bool
@@ -41,14 +44,18 @@ unfoldable pub sameFilter : RouteSettings → RouteSettings → Bool
 sameFilter a b = eqb (a .octets) (b .octets) && alike (a .filter) (b .filter) 20
 
 -- no route below n has the filter of s
+abbrev pub otherAt : Manager → RouteSettings → ℕ → Bool
+otherAt m s i = not (sameFilter (settingsAt m i) s)
+
 abbrev pub newTo : Manager → RouteSettings → ℕ → Bool
-newTo m s zero = true
-newTo m s (suc n) = newTo m s n && not (sameFilter (settingsAt m n) s)
+newTo m s n = allBelow (otherAt m s) n
 
 -- no two of the routes below n have equal filters: refusal 3 of settings
+abbrev pub newAt : Manager → ℕ → Bool
+newAt m i = newTo m (settingsAt m i) i
+
 abbrev pub distinct : Manager → ℕ → Bool
-distinct m zero = true
-distinct m (suc n) = distinct m n && newTo m (settingsAt m n) n
+distinct m n = allBelow (newAt m) n
 
 abbrev pub sameRelease : Release → Release → Bool
 sameRelease a b = eqb (rank a) (rank b)
@@ -81,9 +88,11 @@ abbrev pub routeRight : ℕ → Route → Bool
 routeRight last r = settingsRight (r .settings) && (not (r .«open») || fileRight last (r .settings) (r .file))
 
 -- the routes below n
+abbrev pub rightAt : Manager → ℕ → Bool
+rightAt m i = routeRight (m .last) (routeAt m i)
+
 abbrev pub routesRight : Manager → ℕ → Bool
-routesRight m zero = true
-routesRight m (suc n) = routesRight m n && routeRight (m .last) (routeAt m n)
+routesRight m n = allBelow (rightAt m) n
 
 unfoldable pub stateRight : Manager → Bool
 stateRight m =

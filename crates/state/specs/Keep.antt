@@ -2,20 +2,21 @@
 -- grows, and when a route is replaced by a right one with the same settings; regions and routing go by the settings alone.
 -- Assumes nothing.
 use mathlib.Core.Path.{_≡_, refl, ap, _∙_}
-use mathlib.Core.Bool.{true, not, _&&_}
+use mathlib.Core.Bool.{true, not}
 use mathlib.Core.List.{List}
 use Prim.Native.Nat.{ℕ, zero, suc, _+_, _≤_, _<_}
 use native.Mathlib.Omega.{arith}
+use Rattle.refusals.specs.Below.{below-same}
 use native.Mathlib.Decide.{ℕ-discrete}
 use lib.ListN.{length}
 use lib.Seq.{getD-set-same, getD-set-other}
 use Rattle.state.specs.declared.RouteSettings.{RouteSettings}
 use Rattle.state.specs.declared.OpenFile.{OpenFile}
 use Rattle.state.specs.declared.Route.{Route}
-use Rattle.state.specs.declared.Manager.{Manager}
+use Rattle.state.specs.Manager.{Manager}
 use Rattle.state.specs.Manager.{noRoute, routeAt, settingsAt, base, withRoute, withTime}
 use Rattle.state.specs.Routing.{better, among}
-use Rattle.state.specs.Bounds.{sameFilter, newTo, distinct, fileRight, routeRight, stateRight}
+use Rattle.state.specs.Bounds.{sameFilter, otherAt, newAt, distinct, fileRight, routeRight, stateRight}
 use Rattle.state.specs.Within.{FileWithin, file-within, within-file, RouteWithin, route-within, Within, within, right-within}
 
 -- Two states whose routes have the same settings.
@@ -30,14 +31,12 @@ module _ (m m′ : Manager) (same : (j : ℕ) → settingsAt m′ j ≡ settings
   among-kept key zero = refl
   among-kept key (suc n) = λ i. better (among-kept key n i) n (same n i) key
 
-  new-kept : {s s′ : RouteSettings} → s′ ≡ s → (n : ℕ) → newTo m′ s′ n ≡ newTo m s n
-  new-kept e zero = refl
-  new-kept e (suc n) = λ i. new-kept e n i && not (sameFilter (same n i) (e i))
-
   -- and their filters differ alike
+  new-kept : (n : ℕ) → newAt m′ n ≡ newAt m n
+  new-kept n = below-same (otherAt m′ (settingsAt m′ n)) (otherAt m (settingsAt m n)) n (λ i h. λ j. not (sameFilter (same i j) (same n j)))
+
   pub distinct-kept : (n : ℕ) → distinct m′ n ≡ distinct m n
-  distinct-kept zero = refl
-  distinct-kept (suc n) = λ i. distinct-kept n i && new-kept (same n) n i
+  distinct-kept n = below-same (newAt m′) (newAt m) n (λ i h. new-kept i)
 
   -- a state whose routes are right stays within its bounds with the other's number of routes, offset and settings
   pub within-kept : Within m → m′ .count ≡ m .count → m′ .bias ≡ m .bias → m′ .last ≤ 52595999

@@ -3,8 +3,10 @@ pub mod Size
 pub mod Loss
 pub mod Routing
 pub mod Bounds
+pub mod Empty
 pub mod Regions
 pub mod Holding
 pub mod Longest
 pub mod Within
 pub mod Keep
+pub mod Common

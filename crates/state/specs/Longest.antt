@@ -10,7 +10,7 @@ use lib.Dec.{ltb}
 use borrow.Author.Tests.{ltb-true, ltb-false, not-false}
 use Rattle.refusals.specs.Tests.{both}
 use Rattle.refusals.specs.Refusal.{or-false}
-use Rattle.state.specs.declared.Manager.{Manager}
+use Rattle.state.specs.Manager.{Manager}
 use Rattle.state.specs.declared.Routed.{Routed}
 use Rattle.state.specs.Manager.{settingsAt}
 use Rattle.state.specs.Routing.{fits, among, routeOf}

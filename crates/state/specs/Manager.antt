@@ -8,7 +8,17 @@ use Rattle.record.specs.declared.Release.{Release}
 use Rattle.state.specs.declared.RouteSettings.{RouteSettings}
 use Rattle.state.specs.declared.OpenFile.{OpenFile}
 use Rattle.state.specs.declared.Route.{Route}
-use Rattle.state.specs.declared.Manager.{Manager}
+use Rattle.state.specs.declared.Node.{Node}
+
+-- the manager: up to eight routes of which `count` are configured, the node's address and UTC offset plus 1,439, the effective time of
+-- the last accepted event, and the number of unrouted records since fresh
+pub record Manager : Type 0 where
+  pub routes : List Route
+  pub count : ℕ
+  pub address : List ℕ
+  pub bias : ℕ
+  pub last : ℕ
+  pub unrouted : ℕ
 
 abbrev pub noRelease : Release
 noRelease = record { release = 0; extension = 0; version = 0 }
@@ -33,6 +43,10 @@ routeAt m i = getD (m .routes) i noRoute
 
 abbrev pub settingsAt : Manager → ℕ → RouteSettings
 settingsAt m i = routeAt m i .settings
+
+-- the node that every header names
+abbrev pub nodeOf : Manager → Node
+nodeOf m = record { address = m .address; bias = m .bias }
 
 -- the filter's octets that count
 abbrev pub filterOf : RouteSettings → List ℕ

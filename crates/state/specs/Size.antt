@@ -1,24 +1,17 @@
 -- The size rule (document 01, File header; Routing and loss): how many octets a file has, from its filter's length, its high
 -- and low release and its records' octets. The manager writes no private extension. Assumes nothing.
-use mathlib.Core.Path.{_≡_}
 use mathlib.Core.Bool.{Bool, true, false, cond}
-use mathlib.Core.List.{List, [], _∷_}
+use mathlib.Core.List.{[], _∷_}
 use Prim.Native.Nat.{ℕ, _+_, _≤_}
 use native.Mathlib.Omega.{arith}
 use lib.Dec.{eqb}
 use lib.ListN.{length}
 use Rattle.record.specs.declared.Release.{Release}
 use Rattle.record.specs.Release.{extensionOctets}
-use Rattle.cdrfile.specs.declared.Header.{Header}
-use Rattle.cdrfile.specs.File.{headerLength}
 
 -- the header of a file of the manager's, by the filter's length, high and low
 abbrev pub headerSize : ℕ → Release → Release → ℕ
 headerSize filter high low = 50 + filter + length (extensionOctets high) + length (extensionOctets low)
-
--- it is the layout's header length without a private extension
-pub header-size : (h : Header) (filter : List ℕ) → headerLength h filter [] ≡ headerSize (length filter) (h .high) (h .low)
-header-size h filter = omega arith
 
 -- an extension is one octet at most, so a header has 52 octets and the filter at most
 extension-most : (r : Release) → length (extensionOctets r) ≤ 1

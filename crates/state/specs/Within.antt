@@ -1,22 +1,21 @@
 -- What it says that a state is within its bounds (document 01, Refusals 18), as facts with names, both ways: each test of
 -- `Bounds` that holds gives its fact, and the facts make the tests hold. Assumes nothing.
-use mathlib.Core.Path.{_≡_, refl}
+use mathlib.Core.Path.{_≡_}
 use mathlib.Core.Bool.{Bool, true, not, _&&_, _||_}
-use Prim.Native.Nat.{ℕ, zero, suc, _+_, _*_, _≤_, _<_}
-use native.Mathlib.Omega.{arith}
-use native.Mathlib.Decide.{ℕ-discrete}
+use Prim.Native.Nat.{ℕ, _+_, _*_, _≤_, _<_}
 use lib.Dec.{leb, ltb, eqb}
 use borrow.Author.Tests.{leb-true, ltb-true, eqb-true, eqb-false, le-leb, lt-ltb, eq-eqb, ne-eqb}
 use Rattle.refusals.specs.Tests.{both, each}
+use Rattle.refusals.specs.Below.{below-each, below-all}
 use Rattle.record.specs.Release.{narrowRelease, rank}
 use Rattle.state.specs.declared.RouteSettings.{RouteSettings}
 use Rattle.state.specs.declared.OpenFile.{OpenFile}
 use Rattle.state.specs.declared.Route.{Route}
-use Rattle.state.specs.declared.Manager.{Manager}
+use Rattle.state.specs.Manager.{Manager}
 use Rattle.state.specs.Manager.{routeAt}
 use Rattle.state.specs.Size.{headerSize}
 use Rattle.state.specs.Routing.{Routable}
-use Rattle.state.specs.Bounds.{zeroFrom, settingsTests, settingsRight, distinct, sameRelease, fileTests, fileRight, routeRight, routesRight, stateRight}
+use Rattle.state.specs.Bounds.{zeroFrom, settingsTests, settingsRight, distinct, sameRelease, fileTests, fileRight, routeRight, rightAt, routesRight, stateRight}
 use Rattle.state.specs.Holding.{none, _also_, and-holds, all-hold, or-holds, or-second, if-holds, if-then}
 
 -- a route's settings in range
@@ -136,18 +135,10 @@ module _ (last : ℕ) (r : Route) where
 -- each of the routes below n, both ways
 module _ (m : Manager) where
   routes-within : (n : ℕ) → routesRight m n ≡ true → (i : ℕ) → i < n → RouteWithin (m .last) (routeAt m i)
-  routes-within zero e i h = absurd (omega arith)
-  routes-within (suc n) e i h =
-      let t = both (routesRight m n) (routeRight (m .last) (routeAt m n)) e in
-      elim (ℕ-discrete i n) [
-        | yes p ↦ rw p (route-within (m .last) (routeAt m n) (t .1))
-        | no p ↦ routes-within n (t .0) i (omega arith)
-      ]
+  routes-within n e i h = route-within (m .last) (routeAt m i) (below-each (rightAt m) n e i h)
 
   within-routes : (n : ℕ) → ((i : ℕ) → i < n → RouteWithin (m .last) (routeAt m i)) → routesRight m n ≡ true
-  within-routes zero h = refl
-  within-routes (suc n) h =
-      and-holds (within-routes n (λ i l. h i (omega arith))) (within-route (m .last) (routeAt m n) (h n (omega arith)))
+  within-routes n h = below-all (rightAt m) n (λ i l. within-route (m .last) (routeAt m i) (h i l))
 
 -- a state within its bounds
 pub record Within (m : Manager) : Type 0 where

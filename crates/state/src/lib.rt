@@ -1,26 +1,20 @@
-// The manager's state by value, and the rules that look at it alone: sizes, routing, losses, and its bounds (refusal 18).
+// A route of the manager's state by value, and the rules that look at it alone: sizes, routing, losses, and the bounds of its file (refusal 18).
+// The state as a whole is lent words (crate words); the definitions see it as `Manager` (specs/Manager).
 mod bounds;
+mod clock;
 mod loss;
-mod regions;
-mod routing;
 mod size;
 
-pub use bounds::are_distinct;
-pub use bounds::settings_right;
-pub use bounds::state_right;
+pub use bounds::file_right;
+pub use clock::effective_time;
 pub use loss::is_lost;
 pub use loss::lost_indicator;
 use record::Release;
-pub use regions::effective_time;
-pub use regions::region_base;
-pub use regions::regions_of;
-pub use routing::route_of;
 pub use size::header_size;
 
 // A route's settings (document 01, Settings): its filter, of which `octets` count and the rest are 0; the size limit; the
 // open-time limit in minutes and the most records, 0 for none; the flag for one release and version per file; and the release
 // and version of an empty file.
-#[repr(C)]
 pub struct RouteSettings {
     pub filter: [u8; 20],
     pub octets: u8,
@@ -33,7 +27,6 @@ pub struct RouteSettings {
 
 // An open file: its sequence number, the minutes of opening and last append, the greatest and least release of its records
 // (the configured one where it has none), their format, their number and their octets.
-#[repr(C)]
 pub struct OpenFile {
     pub sequence: u32,
     pub opened: u32,
@@ -47,7 +40,6 @@ pub struct OpenFile {
 
 // A route: its settings, its next sequence number, the known losses and the note of an unrouted record since its last file
 // closed, and its open file, if any.
-#[repr(C)]
 pub struct Route {
     pub settings: RouteSettings,
     pub next: u32,
@@ -57,16 +49,10 @@ pub struct Route {
     pub file: OpenFile,
 }
 
-// The manager: up to eight routes of which `count` are configured, the node's address and UTC offset plus 1,439, the effective
-// time of the last accepted event, and the number of unrouted records since fresh.
-#[repr(C)]
-pub struct Manager {
-    pub routes: [Route; 8],
-    pub count: u8,
+// The node: its address, and its UTC offset plus 1,439.
+pub struct Node {
     pub address: [u8; 16],
     pub bias: u32,
-    pub last: u32,
-    pub unrouted: u32,
 }
 
 // What routing found: whether a route fits, which one, and how many octets its filter has.

@@ -1,29 +1,48 @@
-//! Times RECEIVE by the proved manager beside the plain one on the same records in the same run,
-//! and prints their ratios and records per second. Before that both must answer and write the same.
-//! The plain manager is timed twice: as it is, owning its state, and *judged*, asking at each event
-//! whether its state is within the bounds of refusal 18, as a manager must that is handed one.
+//! Times the events of the proved manager beside the plain one on the same calls in the same run,
+//! and prints their ratios and events per second: RECEIVE, OPEN and CLOSE in turns, and TICK with
+//! nothing due. Before that both must answer and write the same. The plain manager is timed twice:
+//! as it is, owning its state, and *judged*, asking at each event whether its state is within the
+//! bounds of refusal 18, as a manager must that is lent one.
 
+use self::Work::{OpenAndClose, Receive, Tick};
 use leveehum::fields::Release;
 use leveehum::manager::{self, Arrival, Manager};
 use leveehum::proved;
 use leveehum::random::Random;
 use leveehum::settings::{self, Node, Route};
-use leveehum::states::{Answer, State};
+use leveehum::states::Answer;
 use leveehum::timing::{best_of_both, RUNS};
+use leveehum::words::Words;
 use std::hint::black_box;
 use std::process::ExitCode;
 
 /// The size limit of each route.
 const LIMIT: usize = 131_072;
-/// Records in one run: those of eight files of that size, so that each run has its closings.
-const RECORDS: usize = 8 * 1_259;
-/// Records on which both are compared: enough that files of every case close.
+/// Events in one run: the records of eight files of that size, so that each run has its closings.
+const EVENTS: usize = 8 * 1_259;
+/// Events on which both are compared: enough that files of every case close.
 const COMPARED: usize = 100_000;
 const BODY: usize = 100;
 const TIME: u32 = 8_547_030;
+/// The open-time limit of files that TICK finds open and not due.
+const AGE: u32 = 60;
+/// A closure by the system around.
+const REASON: u32 = 4;
+
+/// The events of a case.
+#[derive(Clone, Copy, PartialEq, Eq)]
+enum Work {
+    /// Of bodies of `BODY` octets.
+    Receive,
+    /// An empty file opens and closes on one route after another.
+    OpenAndClose,
+    /// Each route has an open file with one record.
+    Tick,
+}
 
 struct Case {
     name: &'static str,
+    work: Work,
     routes: usize,
     /// Octets of each filter.
     filter: usize,
@@ -32,15 +51,20 @@ struct Case {
 }
 
 #[rustfmt::skip]
-const CASES: [Case; 4] = [
-    Case { name: "one route, files of 128 KiB", routes: 1, filter: 0, most: 0 },
-    Case { name: "eight routes, 20-octet filters, files of 128 KiB", routes: 8, filter: 20, most: 0 },
-    Case { name: "one route, files of ten records", routes: 1, filter: 0, most: 10 },
-    Case { name: "eight routes, 20-octet filters, ten records", routes: 8, filter: 20, most: 10 },
+const CASES: [Case; 8] = [
+    Case { name: "RECEIVE, one route, files of 128 KiB", work: Receive, routes: 1, filter: 0, most: 0 },
+    Case { name: "RECEIVE, eight routes, files of 128 KiB", work: Receive, routes: 8, filter: 20, most: 0 },
+    Case { name: "RECEIVE, one route, files of ten records", work: Receive, routes: 1, filter: 0, most: 10 },
+    Case { name: "RECEIVE, eight routes, files of ten records", work: Receive, routes: 8, filter: 20, most: 10 },
+    Case { name: "OPEN and CLOSE in turns, one route", work: OpenAndClose, routes: 1, filter: 0, most: 0 },
+    Case { name: "OPEN and CLOSE in turns, eight routes", work: OpenAndClose, routes: 8, filter: 20, most: 0 },
+    Case { name: "TICK with nothing due, one route", work: Tick, routes: 1, filter: 0, most: 0 },
+    Case { name: "TICK with nothing due, eight routes", work: Tick, routes: 8, filter: 20, most: 0 },
 ];
 
 fn main() -> ExitCode {
-    println!("RECEIVE of {BODY}-octet bodies, nanoseconds each, best of {RUNS} interleaved runs");
+    println!("Nanoseconds an event, best of {RUNS} interleaved runs;");
+    println!("RECEIVE of {BODY}-octet bodies, and 20-octet filters with eight routes");
     println!(
         "{:48} {:>9} {:>9} {:>6} {:>9} {:>6} {:>14}",
         "case", "proved", "plain", "ratio", "judged", "ratio", "proved /s"
@@ -71,32 +95,160 @@ impl<M> Desk<M> {
     }
 }
 
-impl Desk<State> {
+/// The four events, all at one time.
+trait Events {
+    type Said;
+    fn open(&mut self, route: u32) -> Self::Said;
+    fn close(&mut self, route: u32) -> Self::Said;
+    fn tick(&mut self) -> Self::Said;
+    fn receive(&mut self, arrival: &Arrival) -> Self::Said;
+}
+
+impl Events for Desk<Words> {
+    type Said = Answer;
+
+    fn open(&mut self, route: u32) -> Answer {
+        let (words, store, output) = (&mut self.manager, &mut self.store, &mut self.output);
+        proved::open(words, store, output, TIME, route)
+    }
+
+    fn close(&mut self, route: u32) -> Answer {
+        let (words, store, output) = (&mut self.manager, &mut self.store, &mut self.output);
+        proved::close(words, store, output, TIME, route, REASON)
+    }
+
+    fn tick(&mut self) -> Answer {
+        let (words, store, output) = (&mut self.manager, &mut self.store, &mut self.output);
+        proved::tick(words, store, output, TIME)
+    }
+
     fn receive(&mut self, arrival: &Arrival) -> Answer {
-        let Desk {
-            manager,
-            store,
-            output,
-        } = self;
-        proved::receive(manager, store, output, TIME, arrival)
+        let (words, store, output) = (&mut self.manager, &mut self.store, &mut self.output);
+        proved::receive(words, store, output, TIME, arrival)
     }
 }
 
-impl Desk<Manager> {
-    fn receive(&mut self, arrival: &Arrival) -> manager::Answer {
-        let Desk {
-            manager,
-            store,
-            output,
-        } = self;
-        manager.receive(store, output, TIME, arrival)
+impl Events for Desk<Manager> {
+    type Said = manager::Answer;
+
+    fn open(&mut self, route: u32) -> manager::Answer {
+        self.manager.open(&self.store, TIME, route)
     }
 
-    fn receive_judged(&mut self, arrival: &Arrival) -> manager::Answer {
-        if !black_box(&self.manager).is_within_bounds() {
-            return Err((18, 0));
+    fn close(&mut self, route: u32) -> manager::Answer {
+        let (store, output) = (&self.store, &mut self.output);
+        self.manager.close(store, output, TIME, route, REASON)
+    }
+
+    fn tick(&mut self) -> manager::Answer {
+        self.manager.tick(&self.store, &mut self.output, TIME)
+    }
+
+    fn receive(&mut self, arrival: &Arrival) -> manager::Answer {
+        let (store, output) = (&mut self.store, &mut self.output);
+        self.manager.receive(store, output, TIME, arrival)
+    }
+}
+
+/// The plain manager, judged.
+struct Judged<'a>(&'a mut Desk<Manager>);
+
+impl Judged<'_> {
+    /// The desk, if its manager's state is within the bounds.
+    fn desk(&mut self) -> Result<&mut Desk<Manager>, (u8, usize)> {
+        match black_box(&self.0.manager).is_within_bounds() {
+            true => Ok(self.0),
+            false => Err((18, 0)),
         }
-        self.receive(arrival)
+    }
+}
+
+impl Events for Judged<'_> {
+    type Said = manager::Answer;
+
+    fn open(&mut self, route: u32) -> manager::Answer {
+        self.desk()?.open(route)
+    }
+
+    fn close(&mut self, route: u32) -> manager::Answer {
+        self.desk()?.close(route)
+    }
+
+    fn tick(&mut self) -> manager::Answer {
+        self.desk()?.tick()
+    }
+
+    fn receive(&mut self, arrival: &Arrival) -> manager::Answer {
+        self.desk()?.receive(arrival)
+    }
+}
+
+/// Both managers: their answers and the files that they close must be the same.
+struct Both<'a> {
+    proved: &'a mut Desk<Words>,
+    plain: &'a mut Desk<Manager>,
+    events: usize,
+    difference: Option<String>,
+}
+
+impl Both<'_> {
+    fn compare(&mut self, answer: Answer, expected: manager::Answer) {
+        let (index, expected) = (self.events, Answer::from(expected));
+        self.events += 1;
+        let what = if answer != expected {
+            format!("plain {expected:?}, proved {answer:?}")
+        } else if self.proved.output[..answer.octets] != self.plain.output[..answer.octets] {
+            "the closed files differ".to_owned()
+        } else if answer.refusal != 0 {
+            format!("both refused with {}", answer.refusal)
+        } else {
+            return;
+        };
+        self.difference
+            .get_or_insert(format!("event {index}: {what}"));
+    }
+
+    /// The first difference, or one in what all events left.
+    fn compared(self) -> Result<(), String> {
+        let (proved, plain) = (self.proved, self.plain);
+        if let Some(what) = self.difference {
+            return Err(what);
+        }
+        if proved.manager != plain.manager.state().words() {
+            return Err("the words differ".to_owned());
+        }
+        match (&proved.store, &proved.output) == (&plain.store, &plain.output) {
+            true => Ok(()),
+            false => Err("the stores or the outputs differ".to_owned()),
+        }
+    }
+}
+
+impl Events for Both<'_> {
+    type Said = ();
+
+    fn open(&mut self, route: u32) {
+        let answer = self.proved.open(route);
+        let expected = self.plain.open(route);
+        self.compare(answer, expected);
+    }
+
+    fn close(&mut self, route: u32) {
+        let answer = self.proved.close(route);
+        let expected = self.plain.close(route);
+        self.compare(answer, expected);
+    }
+
+    fn tick(&mut self) {
+        let answer = self.proved.tick();
+        let expected = self.plain.tick();
+        self.compare(answer, expected);
+    }
+
+    fn receive(&mut self, arrival: &Arrival) {
+        let answer = self.proved.receive(arrival);
+        let expected = self.plain.receive(arrival);
+        self.compare(answer, expected);
     }
 }
 
@@ -109,34 +261,39 @@ fn run(case: &Case) -> Result<(), String> {
     let mut plain = Desk::new(Manager::load(&octets).map_err(refused)?, case);
     let body = Random::new(1).octets(BODY);
     let arrivals: Vec<Arrival> = filters.iter().map(|key| arrival(key, &body)).collect();
-    compare(&mut proved, &mut plain, &arrivals)?;
-    let records = || arrivals.iter().cycle().take(RECORDS);
+    compare(&mut proved, &mut plain, case.work, &arrivals)?;
     let plain_pair = best_of_both(
-        || {
-            for arrival in records() {
-                black_box(proved.receive(black_box(arrival)));
-            }
-        },
-        || {
-            for arrival in records() {
-                let _ = black_box(plain.receive(black_box(arrival)));
-            }
-        },
+        || work_on(&mut proved, case.work, &arrivals, EVENTS),
+        || work_on(&mut plain, case.work, &arrivals, EVENTS),
     );
     let judged_pair = best_of_both(
-        || {
-            for arrival in records() {
-                black_box(proved.receive(black_box(arrival)));
-            }
-        },
-        || {
-            for arrival in records() {
-                let _ = black_box(plain.receive_judged(black_box(arrival)));
-            }
-        },
+        || work_on(&mut proved, case.work, &arrivals, EVENTS),
+        || work_on(&mut Judged(&mut plain), case.work, &arrivals, EVENTS),
     );
     print_case(case.name, plain_pair, judged_pair);
     Ok(())
+}
+
+/// So many events of a case, on its routes in turn.
+fn work_on(desk: &mut impl Events, work: Work, arrivals: &[Arrival], events: usize) {
+    match work {
+        Receive => {
+            for arrival in arrivals.iter().cycle().take(events) {
+                black_box(desk.receive(black_box(arrival)));
+            }
+        }
+        OpenAndClose => {
+            for route in (0..arrivals.len() as u32).cycle().take(events / 2) {
+                black_box(desk.open(black_box(route)));
+                black_box(desk.close(black_box(route)));
+            }
+        }
+        Tick => {
+            for _ in 0..events {
+                black_box(desk.tick());
+            }
+        }
+    }
 }
 
 /// Filters that differ in their last octet only.
@@ -157,7 +314,7 @@ fn octets(case: &Case, filters: &[Vec<u8>]) -> Vec<u8> {
     let route = |filter: &Vec<u8>| Route {
         filter: filter.clone(),
         limit: LIMIT as u32,
-        age: 0,
+        age: if case.work == Tick { AGE } else { 0 },
         most: case.most,
         flag: 0,
         release: Release::default(),
@@ -184,33 +341,30 @@ fn arrival<'a>(key: &'a [u8], body: &'a [u8]) -> Arrival<'a> {
     }
 }
 
-/// Lets both take the same records: answers, stores and outputs must be the same.
+/// Lets both do the same work: answers, closed files, words, stores and outputs must be the same.
 fn compare(
-    proved: &mut Desk<State>,
+    proved: &mut Desk<Words>,
     plain: &mut Desk<Manager>,
+    work: Work,
     arrivals: &[Arrival],
 ) -> Result<(), String> {
-    for (index, arrival) in arrivals.iter().cycle().take(COMPARED).enumerate() {
-        let answer = proved.receive(arrival);
-        let expected = Answer::from(plain.receive(arrival));
-        if answer != expected {
-            return Err(format!(
-                "record {index}: plain {expected:?}, proved {answer:?}"
-            ));
-        }
-        if proved.output[..answer.octets] != plain.output[..answer.octets] {
-            return Err(format!("record {index}: the closed files differ"));
-        }
+    let mut both = Both {
+        proved,
+        plain,
+        events: 0,
+        difference: None,
+    };
+    if work == Tick {
+        // Files that TICK finds open.
+        work_on(&mut both, Receive, arrivals, arrivals.len());
     }
-    match (&proved.store, &proved.output) == (&plain.store, &plain.output) {
-        true => Ok(()),
-        false => Err("the stores or the outputs differ".to_owned()),
-    }
+    work_on(&mut both, work, arrivals, COMPARED);
+    both.compared()
 }
 
 fn print_case(name: &str, plain_pair: [f64; 2], judged_pair: [f64; 2]) {
-    let [proved, plain] = plain_pair.map(|run| run / RECORDS as f64);
-    let [beside, judged] = judged_pair.map(|run| run / RECORDS as f64);
+    let [proved, plain] = plain_pair.map(|run| run / EVENTS as f64);
+    let [beside, judged] = judged_pair.map(|run| run / EVENTS as f64);
     println!(
         "{name:48} {proved:9.1} {plain:9.1} {:6.2} {judged:9.1} {:6.2} {:14.0}",
         proved / plain,

@@ -1,26 +1,30 @@
-//! Compares the proved manager with the plain one on forged states, in one process and from a fixed
-//! seed: all four events on states beyond each bound of refusal 18, on their neighbours within it,
-//! on random states and on fresh ones. Answer, state, store and output must be the same. Prints how
-//! often each condition, refusal and outcome came, or the first difference and the call on which it
-//! did.
+//! Compares the proved manager with the plain one on the words of forged states, in one process and
+//! from a fixed seed: all four events on states beyond each bound of refusal 18, on their neighbours
+//! within it, on random states and on fresh ones, on random words and on words of every wrong
+//! number. Answer, words, store and output must be the same. Prints how often each condition, kind
+//! of words, refusal and outcome came, or the first difference and the call on which it did.
 
 use leveehum::bounds;
 use leveehum::faults::FAULTS;
 use leveehum::forge;
 use leveehum::manager::{Manager, LONGEST_FILTER, NODE_OCTETS, ROUTE_OCTETS};
-use leveehum::proved::{self, Fresh};
+use leveehum::proved;
 use leveehum::random::Random;
 use leveehum::states::{Answer, State};
 use leveehum::trials::{After, Event, Trial};
+use leveehum::words::{Words, WORDS};
 use std::collections::BTreeMap;
-use std::fmt::Debug;
+use std::fmt::{Debug, UpperHex};
 use std::process::ExitCode;
 use std::time::Instant;
 
 const SEED: u64 = 0x3229_7000_2026_0005;
-/// Rounds over all conditions, and states of each random kind.
+/// Rounds over all conditions, states of each random kind, and rounds over all numbers of words.
 const ROUNDS: usize = 700;
 const RANDOM_STATES: usize = 20_000;
+const NUMBER_ROUNDS: usize = 40;
+/// How often in such a round there is one word too many.
+const ONE_MORE: usize = 20;
 /// The fewest calls that a run must have compared.
 const LEAST_CALLS: usize = 200_000;
 /// Octets of a store or an output that are printed with a difference.
@@ -29,6 +33,10 @@ const SHOWN: usize = 4_096;
 /// Where a file has its closure reason.
 const REASON: usize = 26;
 const CLOSED_AT_ONCE: &str = "RECEIVE opened a file and closed it";
+
+/// The words of states within the bounds, and words of which each is any.
+const RIGHT: &str = "right words";
+const RANDOM: &str = "random words";
 
 /// How often something came, by its name.
 type Tally = BTreeMap<String, usize>;
@@ -42,6 +50,8 @@ struct Counts {
     /// Calls on states within the bounds: the neighbours of such, and those with the same fault
     /// where it is not judged.
     kept: Tally,
+    /// Calls on forged words, by their kind.
+    words: Tally,
     events: Tally,
     /// Calls on states within the bounds, and those of them that no list of events reaches.
     within: usize,
@@ -67,15 +77,7 @@ fn main() -> ExitCode {
 
 fn run(random: &mut Random, counts: &mut Counts) -> Result<(), String> {
     for _ in 0..ROUNDS {
-        for fault in &FAULTS {
-            let [past, within] = fault.pair(random);
-            let calls = compare_planned(random, &past, &[fault.name], counts)?;
-            add(&mut counts.broken, fault.name, calls);
-            for state in fault.unjudged(random).iter().chain([&within]) {
-                let calls = compare_planned(random, state, &[], counts)?;
-                add(&mut counts.kept, fault.name, calls);
-            }
-        }
+        compare_faults(random, counts)?;
     }
     for index in 0..RANDOM_STATES {
         let routes = forge::count(random);
@@ -86,10 +88,64 @@ fn run(random: &mut Random, counts: &mut Counts) -> Result<(), String> {
         if index % 4 == 0 {
             let state = forge::any(random);
             compare_all(random, &state, counts)?;
+            compare_random_words(random, counts)?;
             compare_fresh(random, counts)?;
         }
     }
+    for _ in 0..NUMBER_ROUNDS {
+        compare_numbers(random, counts)?;
+    }
     Ok(())
+}
+
+/// Each condition broken alone, its neighbour, and the same fault where it is not judged.
+fn compare_faults(random: &mut Random, counts: &mut Counts) -> Result<(), String> {
+    for fault in &FAULTS {
+        let [past, within] = fault.pair(random);
+        let calls = compare_planned(random, &past, &[fault.name], counts)?;
+        add(&mut counts.broken, fault.name, calls);
+        for state in fault.unjudged(random).iter().chain([&within]) {
+            let calls = compare_planned(random, state, &[], counts)?;
+            add(&mut counts.kept, fault.name, calls);
+        }
+    }
+    Ok(())
+}
+
+fn compare_random_words(random: &mut Random, counts: &mut Counts) -> Result<(), String> {
+    let state = State::from_words(&forge::any_words(random));
+    let calls = compare_all(random, &state, counts)?;
+    add(&mut counts.words, RANDOM, calls);
+    Ok(())
+}
+
+/// Every wrong number of words, from none to one too many.
+fn compare_numbers(random: &mut Random, counts: &mut Counts) -> Result<(), String> {
+    for number in (0..WORDS).chain([WORDS + 1; ONE_MORE]) {
+        let routes = forge::count(random);
+        let right = forge::right(random, routes).words();
+        let any = forge::any_words(random);
+        for (kind, words) in [(RIGHT, right), (RANDOM, any)] {
+            let calls = compare_number(random, &words, number, counts)?;
+            add(&mut counts.words, &numbered(kind, number), calls);
+        }
+    }
+    Ok(())
+}
+
+/// All four events on so many of these words, or on all of them and any others behind them. The
+/// events are made for all of them, so that their number alone refuses those on right words.
+fn compare_number(
+    random: &mut Random,
+    words: &Words,
+    number: usize,
+    counts: &mut Counts,
+) -> Result<usize, String> {
+    let mut trials = Trial::all(random, &State::from_words(words));
+    for trial in &mut trials {
+        trial.words.resize(number, random.word() as u32);
+    }
+    compare_trials(&trials, counts)
 }
 
 /// Both managers of the same settings, and all four events on the state that the proved one has.
@@ -97,23 +153,25 @@ fn compare_fresh(random: &mut Random, counts: &mut Counts) -> Result<(), String>
     let routes = forge::count(random);
     let mut octets = forge::right(random, routes).settings();
     damage(random, &mut octets);
-    let fresh = proved::load(&octets);
-    let compared = match Manager::load(&octets) {
-        Ok(manager) => {
-            let expected = Fresh {
-                refusal: 0,
-                state: manager.state(),
-            };
-            same("fresh manager", &expected, &fresh)
-        }
-        Err(refusal) => same("settings", &refusal, &fresh.refusal),
-    };
-    let is_within = bounds::broken(&fresh.state).is_empty();
-    compared
-        .and_then(|()| same("within the bounds", &(fresh.refusal == 0), &is_within))
+    let loaded = proved::load(&octets);
+    let state = State::from_words(&loaded.words);
+    compare_loaded(&octets, loaded.accepted())
+        .and_then(|()| {
+            let is_within = bounds::broken(&state).is_empty();
+            same("within the bounds", &(loaded.refusal == 0), &is_within)
+        })
         .map_err(|what| format!("{what}\nsettings {}", hexadecimal(&octets)))?;
-    add(&mut counts.events, &loaded(fresh.refusal), 1);
-    compare_all(random, &fresh.state, counts).map(drop)
+    add(&mut counts.events, &loaded_with(loaded.refusal), 1);
+    compare_all(random, &state, counts).map(drop)
+}
+
+/// The fresh manager's words, or the settings' refusal.
+fn compare_loaded(settings: &[u8], loaded: Result<Words, u8>) -> Result<(), String> {
+    let expected = Manager::load(settings).map(|manager| manager.state().words());
+    match (expected, loaded) {
+        (Ok(expected), Ok(words)) => same_items("words", &expected, &words),
+        (expected, loaded) => same("settings", &expected.err(), &loaded.err()),
+    }
 }
 
 /// Leaves settings as they are, changes or cuts them, or makes two filters equal.
@@ -160,37 +218,46 @@ fn compare_all(random: &mut Random, state: &State, counts: &mut Counts) -> Resul
     if is_within && !Manager::from_state(state).is_within_bounds() {
         return Err(format!("the plain manager is beyond its bounds\n{state:?}"));
     }
-    let trials = Trial::all(random, state);
-    for trial in &trials {
+    compare_trials(&Trial::all(random, state), counts)
+}
+
+/// Runs both managers on each trial; the number of calls.
+fn compare_trials(trials: &[Trial], counts: &mut Counts) -> Result<usize, String> {
+    for trial in trials {
         let expected = trial.expected();
         let after = run_proved(trial);
+        let was_within = is_within(trial.state());
         let mut compared = compare(&expected, &after);
-        if is_within && !bounds::broken(&after.state).is_empty() {
+        if was_within && !is_within(after.state()) {
             compared = Err("an event led beyond the bounds".to_owned());
         }
         compared.map_err(|what| format!("{what}\n{}", shown(trial)))?;
-        counts.add(trial, &expected, is_within);
+        counts.add(trial, &expected, was_within);
     }
     Ok(trials.len())
+}
+
+fn is_within(state: Option<State>) -> bool {
+    state.is_some_and(|state| bounds::broken(&state).is_empty())
 }
 
 fn run_proved(trial: &Trial) -> After {
     let mut after = After {
         answer: Answer::default(),
-        state: trial.state,
+        words: trial.words.clone(),
         store: trial.store.clone(),
         output: trial.output.clone(),
     };
-    let (state, time) = (&mut after.state, trial.time);
+    let (words, time) = (&mut after.words, trial.time);
     let (store, output) = (&mut after.store, &mut after.output);
     after.answer = match &trial.event {
-        Event::Open { route } => proved::open(state, store, output, time, *route),
+        Event::Open { route } => proved::open(words, store, output, time, *route),
         Event::Close { route, reason } => {
-            proved::close(state, store, output, time, *route, *reason)
+            proved::close(words, store, output, time, *route, *reason)
         }
-        Event::Tick => proved::tick(state, store, output, time),
+        Event::Tick => proved::tick(words, store, output, time),
         Event::Receive(received) => {
-            proved::receive(state, store, output, time, &received.arrival())
+            proved::receive(words, store, output, time, &received.arrival())
         }
     };
     after
@@ -198,19 +265,26 @@ fn run_proved(trial: &Trial) -> After {
 
 fn compare(expected: &After, after: &After) -> Result<(), String> {
     same("answer", &expected.answer, &after.answer)?;
-    same("state", &expected.state, &after.state)?;
-    same_octets("store", &expected.store, &after.store)?;
-    same_octets("output", &expected.output, &after.output)
+    same_items("words", &expected.words, &after.words)?;
+    same_items("store", &expected.store, &after.store)?;
+    same_items("output", &expected.output, &after.output)
 }
 
-/// The first octet that differs, since all of them are too many to read.
-fn same_octets(what: &str, expected: &[u8], octets: &[u8]) -> Result<(), String> {
-    if expected == octets {
+/// The first word or octet that differs, since all of them are too many to read.
+fn same_items<T: PartialEq + UpperHex>(
+    what: &str,
+    plain: &[T],
+    proved: &[T],
+) -> Result<(), String> {
+    if plain == proved {
         return Ok(());
     }
-    let differs = |at: &usize| expected[*at] != octets[*at];
-    let at = (0..octets.len()).find(differs).unwrap_or_default();
-    same(&format!("{what} at {at}"), &expected[at], &octets[at])
+    let differs = |at: &usize| plain[*at] != proved[*at];
+    let at = (0..plain.len()).find(differs).unwrap_or_default();
+    let [plain, proved] = [&plain[at], &proved[at]];
+    Err(format!(
+        "{what} at {at}:\nplain  {plain:X}\nproved {proved:X}"
+    ))
 }
 
 /// A call in full but for the ends of a long store and output.
@@ -220,8 +294,10 @@ fn shown(trial: &Trial) -> String {
         format!("{} octets {first}", octets.len())
     };
     format!(
-        "{:?}\ntime {}, {:?}\nstore {}\noutput {}",
-        trial.state,
+        "{} words {:X?}\n{:?}\ntime {}, {:?}\nstore {}\noutput {}",
+        trial.words.len(),
+        trial.words,
+        trial.state(),
         trial.time,
         trial.event,
         octets(&trial.store),
@@ -241,7 +317,31 @@ fn times(tally: &Tally, name: &str) -> usize {
     tally.get(name).copied().unwrap_or_default()
 }
 
-/// Everything that must come at some call.
+/// Prints how often each of these came; the same numbers.
+fn print_tally(tally: &Tally, names: &[impl AsRef<str>]) -> Vec<usize> {
+    let print = |name: &str| {
+        let came = times(tally, name);
+        println!("  {name:40} {came:6}");
+        came
+    };
+    names.iter().map(|name| print(name.as_ref())).collect()
+}
+
+/// The kinds of forged words that must come at some call.
+fn expected_words() -> Vec<String> {
+    let mut names = vec![RANDOM.to_owned()];
+    for kind in [RIGHT, RANDOM] {
+        names.extend([WORDS - 1, WORDS + 1].map(|number| numbered(kind, number)));
+    }
+    names
+}
+
+fn numbered(kind: &str, number: usize) -> String {
+    let what = if number < WORDS { "few" } else { "many" };
+    format!("{kind}, too {what}")
+}
+
+/// Everything else that must come at some call.
 fn expected_events() -> Vec<String> {
     let refusals = [4, 5, 6, 7, 14, 15, 16, 17, 18].map(refused);
     let full = ["losses", "unrouted"].map(refused_19);
@@ -251,7 +351,7 @@ fn expected_events() -> Vec<String> {
     let at_once = [CLOSED_AT_ONCE.to_owned()];
     let mut names = [&refusals[..], &full, &outcomes, &rises, &reasons, &at_once].concat();
     names.extend((0..=8).map(ticked));
-    names.extend((0..=3).map(loaded));
+    names.extend((0..=3).map(loaded_with));
     names
 }
 
@@ -275,7 +375,7 @@ fn ticked(files: u8) -> String {
     format!("TICK closed {files}")
 }
 
-fn loaded(refusal: u8) -> String {
+fn loaded_with(refusal: u8) -> String {
     match refusal {
         0 => "settings accepted".to_owned(),
         _ => format!("settings refused {refusal}"),
@@ -283,9 +383,15 @@ fn loaded(refusal: u8) -> String {
 }
 
 /// The counter that refused with 19: with the other one at 0 it does so still.
-fn full_counter(trial: &Trial) -> &'static str {
-    let mut other = trial.clone();
-    other.state.unrouted = 0;
+fn full_counter(trial: &Trial, state: &State) -> &'static str {
+    let unrouted_0 = State {
+        unrouted: 0,
+        ..*state
+    };
+    let other = Trial {
+        words: unrouted_0.words().to_vec(),
+        ..trial.clone()
+    };
     match other.expected().answer.refusal {
         19 => "losses",
         _ => "unrouted",
@@ -301,27 +407,22 @@ fn events(trial: &Trial, after: &After) -> Vec<String> {
         files,
         ..
     } = after.answer;
+    let (Some(before), Some(behind)) = (trial.state(), after.state()) else {
+        return vec![refused(refusal)];
+    };
     let mut names = match refusal {
         0 => vec![format!("outcome {outcome}")],
-        19 => vec![refused_19(full_counter(trial))],
+        19 => vec![refused_19(full_counter(trial, &before))],
         _ => vec![refused(refusal)],
     };
     let route = usize::from(route);
-    let losses = after
-        .state
-        .routes
-        .get(route)
-        .map_or(0, |route| route.losses);
-    let was_open = trial
-        .state
-        .routes
-        .get(route)
-        .is_some_and(|route| route.open);
+    let losses = behind.routes.get(route).map_or(0, |route| route.losses);
+    let was_open = before.routes.get(route).is_some_and(|route| route.open);
     match outcome {
         2 if files == 1 && !was_open => names.push(CLOSED_AT_ONCE.to_owned()),
         2 if files == 1 => names.push(closed_with(after.output[REASON])),
         3 if losses == u32::MAX => names.push(risen("losses")),
-        4 if after.state.unrouted == u32::MAX => names.push(risen("unrouted")),
+        4 if behind.unrouted == u32::MAX => names.push(risen("unrouted")),
         6 => names.push(ticked(files)),
         _ => {}
     }
@@ -347,12 +448,10 @@ impl Counts {
             println!("  {name:40} {broken:6} {kept:6}");
             all.extend([broken, kept]);
         }
+        println!("calls on forged words:");
+        all.extend(print_tally(&self.words, &expected_words()));
         println!("what came at all calls:");
-        for name in expected_events() {
-            let came = times(&self.events, &name);
-            println!("  {name:40} {came:6}");
-            all.push(came);
-        }
+        all.extend(print_tally(&self.events, &expected_events()));
         let Self {
             calls,
             within,

@@ -4,7 +4,7 @@
 use super::{Manager, Node, OpenFile, Rank, Route};
 use crate::fields::Release;
 use crate::second::WIDEST_OFFSET;
-use crate::states::{self, RouteSettings, State};
+use crate::states::{self, Minute, RouteSettings, State};
 
 impl Manager {
     /// The manager in this state, which is within its bounds.
@@ -27,10 +27,10 @@ impl Manager {
         }
     }
 
-    /// The state as it is handed over; all that is not configured or not open is zeros.
+    /// The state by value; all that is not configured or not open is zeros.
     pub fn state(&self) -> State {
         let mut state = State {
-            count: self.routes.len() as u8,
+            count: self.routes.len() as u32,
             bias: (self.node.offset + WIDEST_OFFSET) as u32,
             ..State::default()
         };
@@ -107,8 +107,8 @@ impl OpenFile {
     fn from_state(file: &states::OpenFile) -> Self {
         Self {
             sequence: file.sequence,
-            opened: file.opened,
-            appended: file.appended,
+            opened: file.opened.get(),
+            appended: file.appended.get(),
             high: rank(file.high),
             low: rank(file.low),
             format: file.format,
@@ -120,8 +120,8 @@ impl OpenFile {
     fn state(&self) -> states::OpenFile {
         states::OpenFile {
             sequence: self.sequence,
-            opened: self.opened,
-            appended: self.appended,
+            opened: Minute::lower(self.opened),
+            appended: Minute::lower(self.appended),
             high: release(self.high),
             low: release(self.low),
             format: self.format,

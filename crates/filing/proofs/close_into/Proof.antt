@@ -69,7 +69,7 @@ lay-out-requires c κs =
     let s = h .before .before .before in
     let a = s .args in
     let n : a .base + a .r .file .octets - a .base ≡ a .r .file .octets = omega arith in
-    layable (a .m) (a .r) (a .reason) (a .store .now) (a .base) (a .output .now) (a .at) (a .lost) (s .pre) (twenty s) (h .header-for .ensures) n
+    layable (a .n) (a .r) (a .reason) (a .store .now) (a .base) (a .output .now) (a .at) (a .lost) (s .pre) (twenty s) (h .header-for .ensures) n
 
 same-length : tie.Need-same-length
 same-length c = search needs
@@ -81,7 +81,7 @@ returns c =
     let s = h .before .before .before in
     let a = s .args in
     let n : a .base + a .r .file .octets - a .base ≡ a .r .file .octets = omega arith in
-    closed (a .m) (a .r) (a .reason) (a .store .now) (a .base) (a .output .now) (a .at) (a .lost) (s .pre) (twenty s) (h .header-for .ensures) n (l .lay-out .ensures)
+    closed (a .n) (a .r) (a .reason) (a .store .now) (a .base) (a .output .now) (a .at) (a .lost) (s .pre) (twenty s) (h .header-for .ensures) n (l .lay-out .ensures)
 
 pub close-into-spec : {M : Type 1} → statement M
 close-into-spec =

@@ -4,8 +4,8 @@ use borrow.Author.Needs.{needs}
 use mathlib.Core.Path.{_≡_, refl}
 use Prim.Native.Nat.{_≤_, _-_}
 use native.Mathlib.Omega.{arith}
-use native.Mathlib.Numerals.{add-one}
-use Rattle.octets.specs.Alike.{alike}
+use Rattle.refusals.specs.Below.{below-turn, below-end}
+use Rattle.octets.specs.Alike.{sameAt, alike}
 use Rattle.octets.proofs.are_alike.Statement.{statement}
 use Rattle.octets.proofs.are_alike.Tie as tie
 
@@ -31,10 +31,16 @@ loop-less : tie.Need-loop-less Inv-loop μ-loop
 loop-less c = search needs
 
 loop-again : tie.Need-loop-again Inv-loop μ-loop
-loop-again c = (search needs, rw add-one (cc))
+loop-again c =
+    let l = c .before .before .before .loop in
+    let a = c .before .before .before .before .args in
+    (search needs, below-turn (sameAt (a .a .now) (a .b .now)) (l .i) (l .inv .1) refl)
 
 returns : tie.Need-returns Inv-loop μ-loop
-returns c = let e : c .before .loop .i ≡ c .before .before .args .n = omega arith in cc
+returns c =
+    let l = c .before .loop in
+    let a = c .before .before .args in
+    below-end (sameAt (a .a .now) (a .b .now)) (l .i) (a .n) (l .inv .1) (omega arith)
 
 pub are-alike-spec : {M : Type 1} → statement M
 are-alike-spec =

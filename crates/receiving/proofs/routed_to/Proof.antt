@@ -1,6 +1,6 @@
 -- `receiving::routed_to` meets its contract: mark 2 finds nobody, else the key decides. Assumes nothing.
-use borrow.Author.Needs.{needs}
 use borrow.Author.Tests.{eq-eqb, ne-eqb}
+use borrow.Author.Needs.{needs}
 use Rattle.receiving.proofs.routed_to.Statement.{statement}
 use Rattle.receiving.proofs.routed_to.Tie as tie
 

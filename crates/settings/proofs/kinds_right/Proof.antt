@@ -3,8 +3,8 @@
 use mathlib.Core.Path.{_≡_, refl}
 use Prim.Native.Nat.{_≤_, _-_}
 use native.Mathlib.Omega.{arith}
-use native.Mathlib.Numerals.{add-one}
-use Rattle.settings.specs.Settings.{kinds}
+use Rattle.refusals.specs.Below.{below-turn, below-end}
+use Rattle.settings.specs.Settings.{kindAt, kinds}
 use borrow.Author.Needs.{needs}
 use Rattle.settings.proofs.kinds_right.Statement.{statement}
 use Rattle.settings.proofs.kinds_right.Tie as tie
@@ -34,10 +34,16 @@ loop-less : tie.Need-loop-less Inv-loop μ-loop
 loop-less c = search needs
 
 loop-again : tie.Need-loop-again Inv-loop μ-loop
-loop-again c = (search needs, rw add-one (cc))
+loop-again c =
+    let l = c .before .before .loop in
+    let xs = c .before .before .before .args .octets .now in
+    (search needs, below-turn (kindAt xs) (l .i) (l .inv .1) refl)
 
 returns : tie.Need-returns Inv-loop μ-loop
-returns c = let e : c .before .loop .i ≡ c .before .before .args .n = omega arith in cc
+returns c =
+    let l = c .before .loop in
+    let a = c .before .before .args in
+    below-end (kindAt (a .octets .now)) (l .i) (a .n) (l .inv .1) (omega arith)
 
 pub kinds-right-spec : {M : Type 1} → statement M
 kinds-right-spec =

@@ -1,24 +1,25 @@
--- `manager::closing::close_refusal` meets its contract: where 18, 16, 4 and 6 do not apply, the route is there, and 7 and 15
--- decide. Assumes nothing.
+-- `manager::closing::close_refusal` meets its contract: where 18, 16, 4 and 6 do not apply, the route is there and 7 and 15 decide.
+-- Assumes nothing.
 use mathlib.Core.Path.{_≡_, refl, sym, _∙_}
+use mathlib.Core.Bool.{cond, not}
 use mathlib.Core.List.{List, [], _∷_}
-use mathlib.Core.Bool.{not}
-use borrow.Author.Needs.{needs}
 use Rattle.refusals.specs.Refusal.{Rule, _when_, first}
 use Rattle.state.specs.Manager.{routeAt}
-use Rattle.manager.specs.Cases.{refused-before, first-behind, routeFirst, route-there}
-use Rattle.manager.specs.Rules.{allowed}
+use Rattle.words.specs.Words.{managerIn}
+use Rattle.events.specs.Rules.{allowed}
+use Rattle.events.specs.Cases.{routeFirst, refused-before, first-behind, route-there}
+use borrow.Author.Needs.{needs}
 use Rattle.manager.proofs.closing.close_refusal.Statement.{statement}
 use Rattle.manager.proofs.closing.close_refusal.Tie as tie
 
 -- 18, 16, 4 and 6, and the rules behind them
 abbrev rest : tie.Start → List Rule
-rest s = (7 when not (allowed (s .args .reason))) ∷ (15 when not (routeAt (s .args .t1) (s .args .route) .«open»)) ∷ []
+rest s = (7 when not (allowed (s .args .reason))) ∷ (15 when not (routeAt (managerIn (s .args .words .now)) (s .args .route) .«open»)) ∷ []
 
 abbrev tested : tie.Start → List Rule
-tested s = routeFirst (s .args .t1) (s .args .store) (s .args .time) (s .args .route)
+tested s = routeFirst (managerIn (s .args .words .now)) (s .args .store) (s .args .time) (s .args .route)
 
-passes : (c : tie.Else1) → first (tested (c .before .before)) ≡ 0
+passes : (c : tie.Else1) → first (tested (c .before .before .before)) ≡ 0
 passes c = sym (c .before .route-refusal .ensures) ∙ c .if1 .left
 
 route-refusal-requires : tie.Need-route-refusal-requires
@@ -26,16 +27,13 @@ route-refusal-requires c κs = search needs
 
 returns : tie.Need-returns
 returns c =
-    let s = c .before .before in
+    let s = c .before .before .before in
     refused-before (tested s) (rest s) (c .before .route-refusal .ensures) (c .if1 .taken)
 
-mul-r : tie.Need-mul-r
-mul-r c = search needs
-
-element-copy-out-r : tie.Need-element-copy-out-r
-element-copy-out-r c =
-    let a = c .before .before .args in
-    route-there (a .t1) (a .store) (a .time) (a .route) (passes c)
+route-at-requires : tie.Need-route-at-requires
+route-at-requires c κs =
+    let s = c .before .before .before in
+    (search needs, route-there (managerIn (s .args .words .now)) (s .args .store) (s .args .time) (s .args .route) (passes c))
 
 is-allowed-requires : tie.Need-is-allowed-requires
 is-allowed-requires c κs = search needs
@@ -49,9 +47,11 @@ either-requires-2 c κs = search needs
 returns-2 : tie.Need-returns-2
 returns-2 c =
     let e = c .before .before .before .before .before in
-    let s = e .before .before in
-    let v : c .either2 .result ≡ first (rest s) = cc in
-    v ∙ sym (first-behind (tested s) (rest s) refl (passes e))
+    let s = e .before .before .before in
+    let shut = c .before .either .ensures ∙ (λ i. cond (not (c .before .before .before .before .route-at .ensures .0 i .«open»)) 15 0) in
+    c .either2 .ensures
+    ∙ (λ i. cond (not (c .before .before .before .is-allowed .ensures i)) 7 (shut i))
+    ∙ sym (first-behind (tested s) (rest s) refl (passes e))
 
 pub close-refusal-spec : {M : Type 1} → statement M
 close-refusal-spec =
@@ -59,8 +59,7 @@ close-refusal-spec =
     (tie.spec
     route-refusal-requires
     returns
-    mul-r
-    element-copy-out-r
+    route-at-requires
     is-allowed-requires
     either-requires
     either-requires-2

@@ -1,48 +1,80 @@
 -- `manager::ticking::close_due` meets its contract: the loop's invariant is that of `Tick`, and a turn either leaves all or
 -- closes one file behind those before it. Assumes nothing.
-use mathlib.Core.Path.{_≡_, sym, ap, _∙_}
-use mathlib.Core.Logic.{⊎-elim}
-use Prim.Native.Nat.{ℕ, _+_, _-_}
-use native.Mathlib.Omega.{arith}
 use borrow.Author.Needs.{needs}
+use mathlib.Core.Path.{_≡_, sym, ap, _∙_}
+use mathlib.Core.Bool.{true}
+use mathlib.Core.Logic.{⊎-elim}
+use Prim.Native.Nat.{ℕ, _+_, _-_, _≤_, _<_}
+use native.Mathlib.Omega.{arith}
 use Rattle.octets.specs.Splice.{splice}
-use Rattle.state.specs.Manager.{routeAt}
-use Rattle.manager.specs.Events.{upTo}
-use Rattle.manager.specs.Cases.{Closes}
-use Rattle.manager.specs.Tick.{Inv, begins, ready, turn-not, turn-due}
+use Rattle.state.specs.declared.Route.{Route}
+use Rattle.state.specs.Manager.{Manager}
+use Rattle.state.specs.Manager.{routeAt, base, nodeOf}
+use Rattle.state.specs.Loss.{indicator}
+use Rattle.state.specs.Regions.{region-within}
+use Rattle.words.specs.Words.{managerIn, wordsOf}
+use Rattle.words.specs.Laws.{twenty}
+use Rattle.filing.specs.Closing.{closedSize}
+use Rattle.filing.specs.Closed.{closed-length}
+use Rattle.filing.specs.Needs.{Closable}
+use Rattle.events.specs.Rules.{closedRoute, due}
+use Rattle.events.specs.Events.{upTo}
+use Rattle.events.specs.Cases.{closable-as, closed-as}
+use Rattle.manager.specs.Tick.{Inv, begins, same-route, ready, turn-not, turn-due}
 use Rattle.manager.proofs.ticking.close_due.Statement.{statement}
 use Rattle.manager.proofs.ticking.close_due.Tie as tie
 
 abbrev Inv-loop : tie.InvT-loop
-Inv-loop t n store output₀ m q₀ at₀ files₀ i₀ output q at files i = Inv m t n store output₀ output q at files i
+Inv-loop words₀ t n store output₀ node from₀ at₀ files₀ i₀ words output from at files i = (node ≡ nodeOf (managerIn words₀)) × Inv words₀ t n store output₀ output words from at files i
 
 abbrev μ-loop : tie.MeasureT-loop
-μ-loop t n store output₀ m q₀ at₀ files₀ i₀ output q at files i = n - i
+μ-loop words₀ t n store output₀ node from₀ at₀ files₀ i₀ words output from at files i = n - i
 
--- the file that is due can be closed behind those before it
-closable : (c : tie.After-close-file-arg Inv-loop μ-loop)
-    → let l = c .before .before .before .before .before .loop in
-    let a = c .before .before .before .before .before .before .before .before .args in
-    Closes (a .t1) (routeAt (a .t1) (l .i)) (l .i) (a .store .now) (l .output) (l .at)
-closable c =
-    let l = c .before .before .before .before .before .loop in
-    let s = c .before .before .before .before .before .before .before .before in
-    ready _ _ _ _ _ (l .inv) (c .before .before .before .before .loop-test .taken) (sym (c .before .before .is-due .ensures) ∙ c .before .if1 .taken) (s .pre)
+abbrev state : tie.Start Inv-loop μ-loop → Manager
+state s = managerIn (s .args .words .now)
+
+few : (s : tie.Start Inv-loop μ-loop) → s .args .n ≤ 8
+few s = omega (arith, s .pre .1 .few, s .pre .1 .state .few)
+
+-- The function's entry, from where a route was read; which is the state's.
+abbrev start : tie.After-route-at Inv-loop μ-loop → tie.Start Inv-loop μ-loop
+start c = c .before .before .before .before .before .before .before .before .before
+
+below : (c : tie.After-route-at Inv-loop μ-loop) → c .before .before .before .loop .i < 8
+below c = omega (arith, few (start c), c .before .before .loop-test .taken)
+
+route-is : (c : tie.After-route-at Inv-loop μ-loop) → c .route-at .result ≡ routeAt (state (start c)) (c .before .before .before .loop .i)
+route-is c = c .route-at .ensures .0 ∙ same-route _ _ _ _ _ (c .before .before .before .loop .inv .1) (c .before .before .loop-test .taken) (few (start c))
+
+due-is : (c : tie.After-is-due Inv-loop μ-loop) → c .is-due .result ≡ true
+    → due (start (c .before) .args .t) (routeAt (state (start (c .before))) (c .before .before .before .before .loop .i)) ≡ true
+due-is c e = ap (due (start (c .before) .args .t)) (sym (route-is (c .before))) ∙ sym (c .is-due .ensures) ∙ e
+
+-- a file that is due can be closed behind those before it
+closable : (c : tie.After-route-at Inv-loop μ-loop)
+    → let l = c .before .before .before .loop in
+    let r = routeAt (state (start c)) (l .i) in
+    due (start c .args .t) r ≡ true
+    → Closable (nodeOf (state (start c))) r (indicator (r .losses) (r .note)) (start c .args .store .now) (base (state (start c)) (l .i)) (l .output) (l .at)
+closable c e = ready _ _ _ _ _ (c .before .before .before .loop .inv .1) (c .before .before .loop-test .taken) e (start c .pre .1)
+
+node-of-requires : tie.Need-node-of-requires Inv-loop μ-loop
+node-of-requires c κs = search needs
 
 loop-holds : tie.Need-loop-holds Inv-loop μ-loop
-loop-holds c = begins _ _ _ _ _
+loop-holds c = (c .node-of .ensures, begins _ _ _ _ _ (c .before .before .before .before .before .pre .0))
 
-mul-r : tie.Need-mul-r Inv-loop μ-loop
-mul-r c = search needs
-
-element-copy-out-r : tie.Need-element-copy-out-r Inv-loop μ-loop
-element-copy-out-r c = search needs
+route-at-requires : tie.Need-route-at-requires Inv-loop μ-loop
+route-at-requires c κs = (c .before .before .loop .inv .1 .number, omega (arith, few (c .before .before .before .before .before .before .before .before), c .before .loop-test .taken))
 
 is-due-requires : tie.Need-is-due-requires Inv-loop μ-loop
 is-due-requires c κs = search needs
 
 close-file-requires : tie.Need-close-file-requires Inv-loop μ-loop
-close-file-requires c κs = closable c
+close-file-requires c κs =
+    let e = c .before .before .before in
+    let l = e .before .before .before .loop in
+    closable-as (state (start e)) (l .i) (l .inv .0) (route-is e) (l .inv .1 .from) (closable e (due-is (c .before .before) (c .before .if1 .taken)))
 
 closed-size-requires : tie.Need-closed-size-requires Inv-loop μ-loop
 closed-size-requires c κs = search needs
@@ -50,51 +82,85 @@ closed-size-requires c κs = search needs
 closed-route-requires : tie.Need-closed-route-requires Inv-loop μ-loop
 closed-route-requires c κs = search needs
 
-mul-closed : tie.Need-mul-closed Inv-loop μ-loop
-mul-closed c = search needs
-
-element-set-from-closed : tie.Need-element-set-from-closed Inv-loop μ-loop
-element-set-from-closed c = search needs
+put-route-requires : tie.Need-put-route-requires Inv-loop μ-loop
+put-route-requires c κs =
+    let e = c .before .before .before .before .before .before .before .before .before in
+    let l = e .before .before .before .loop in
+    let file = c .before .closed-route .ensures in
+    (l .inv .1 .number, below e, omega (arith, ap (λ (r : Route). r .file .opened) file), omega (arith, ap (λ (r : Route). r .file .appended) file))
 
 add-at : tie.Need-add-at Inv-loop μ-loop
 add-at c =
-    let f = c .before .before .before .before .before in
-    let s = f .before .before .before .before .before .before .before .before in
-    omega (arith, closable f .closable .room, f .before .before .before .before .before .loop .inv .long, c .before .closed-size .ensures, s .good)
+    let e = c .before .before .before .before .before .before .before .before .before .before .before .before in
+    let l = e .before .before .before .loop in
+    let n = c .before .before .before .before .before .closed-size .ensures ∙ ap closedSize (route-is e) in
+    omega (arith, closable e (due-is (c .before .before .before .before .before .before .before .before .before .before .before) (c .before .before .before .before .before .before .before .before .before .before .if1 .taken)) .room, l .inv .1 .long, n, start e .good)
 
 add-files : tie.Need-add-files Inv-loop μ-loop
-add-files c = search needs
+add-files c =
+    let e = c .before .before .before .before .before .before .before .before .before .before .before .before in
+    omega (arith, e .before .before .before .loop .inv .1 .few, below e)
+
+cast-from : tie.Need-cast-from Inv-loop μ-loop
+cast-from c = search needs
+
+add-from : tie.Need-add-from Inv-loop μ-loop
+add-from c =
+    let e = c .before .before .before in
+    let l = e .before .before .before .loop in
+    let m = state (start e) in
+    let p = start e .pre .1 in
+    let limit = ap (λ (r : Route). r .settings .limit) (route-is e) in
+    omega (arith, l .inv .1 .from, limit, region-within m (l .i) (m .count) (omega (arith, p .few, e .before .before .loop-test .taken)), p .regions, start e .good)
 
 add-i : tie.Need-add-i Inv-loop μ-loop
-add-i c = search needs
+add-i c = omega (arith, below (c .before .before .before))
 
 loop-less : tie.Need-loop-less Inv-loop μ-loop
 loop-less c = search needs
 
 loop-again : tie.Need-loop-again Inv-loop μ-loop
 loop-again c =
-    let l = c .before .before .before .before .loop in
-    let more = c .before .before .before .loop-test .taken in
-    let due = sym (c .before .is-due .ensures) in
+    let e = c .before .before .before in
+    let d = c .before .before in
+    let l = e .before .before .before .loop in
+    let s = start e in
+    let a = s .args in
+    let v = l .inv .1 in
+    let more = e .before .before .loop-test .taken in
+    let limit = ap (λ (r : Route). r .settings .limit) (route-is e) in
     ⊎-elim
-    (λ w. rw (w .7, w .8, w .9, w .10, w .6 .ensures)
-    (turn-due _ _ _ _ _ (l .inv) more (due ∙ w .0 .taken) (ap (λ (n : ℕ). l .at + n) (w .5 .ensures)) (w .2 .ensures .written) (w .2 .ensures .long)
-    (w .2 .kept .1 .1 .1 .1 .1 .0)))
-    (λ w. rw (w .1, w .2, w .3, w .4) (turn-not _ _ _ _ _ (l .inv) more (due ∙ w .0 .left)))
-    (c .if1 .came)
+    (λ w.
+    let due-now = due-is d (w .0 .taken) in
+    let able = closable e due-now in
+    rw (w .11, w .12, w .13, w .14) (
+      l .inv .0,
+      turn-due _ _ _ _ _ v more due-now (few s) limit (ap (λ (n : ℕ). l .at + n) (w .5 .ensures ∙ ap closedSize (route-is e)))
+          (w .2 .ensures ∙ ap (splice (l .output) (l .at)) (closed-as (state s) (a .store .now) (l .i) 2 (l .inv .0) (route-is e) (v .from)))
+          (closed-length (state s) (a .store .now) (l .i) 2 (able .records) (able .filter) (twenty (a .words .now) (l .i) (below e)))
+          (w .2 .kept .1 .1 .1 .1 .1 .0)
+          (w .6 .ensures ∙ ap closedRoute (route-is e)) (w .8 .ensures),
+    ))
+    (λ w. rw (w .1, w .2, w .3, w .4) (l .inv .0, turn-not _ _ _ _ _ v more limit (ap (due (a .t)) (sym (route-is e)) ∙ sym (d .is-due .ensures) ∙ w .0 .left)))
+    (c .before .if1 .came)
 
 same-length : tie.Need-same-length Inv-loop μ-loop
 same-length c = search needs
 
+same-length-2 : tie.Need-same-length-2 Inv-loop μ-loop
+same-length-2 c = search needs
+
 returns : tie.Need-returns Inv-loop μ-loop
 returns c =
     let l = c .before .loop in
-    let a = c .before .before .before .before .args in
-    let e : l .i ≡ a .n = omega (arith, l .inv .below) in
+    let a = c .before .before .before .before .before .before .before .args in
+    let m = managerIn (a .words .now) in
+    let v = l .inv .1 in
+    let e : l .i ≡ a .n = omega (arith, v .below) in
     record {
-      manager = l .inv .manager ∙ ap (λ (k : ℕ). upTo (a .t1) (a .store .now) (a .t) k .manager) e;
-      count = l .inv .count ∙ ap (λ (k : ℕ). upTo (a .t1) (a .store .now) (a .t) k .files) e;
-      written = l .inv .written ∙ ap (λ (k : ℕ). splice (a .output .now) 0 (upTo (a .t1) (a .store .now) (a .t) k .octets)) e;
+      words = v .words ∙ ap (λ (k : ℕ). wordsOf (upTo m (a .store .now) (a .t) k .manager)) e;
+      count = v .count ∙ ap (λ (k : ℕ). upTo m (a .store .now) (a .t) k .files) e;
+      written = v .written ∙ ap (λ (k : ℕ). splice (a .output .now) 0 (upTo m (a .store .now) (a .t) k .octets)) e;
     }
 
 pub close-due-spec : {M : Type 1} → statement M
@@ -103,19 +169,21 @@ close-due-spec =
     (tie.spec
     Inv-loop
     μ-loop
+    node-of-requires
     loop-holds
-    mul-r
-    element-copy-out-r
+    route-at-requires
     is-due-requires
     close-file-requires
     closed-size-requires
     closed-route-requires
-    mul-closed
-    element-set-from-closed
+    put-route-requires
     add-at
     add-files
+    cast-from
+    add-from
     add-i
     loop-less
     loop-again
     same-length
+    same-length-2
     returns)

@@ -1,14 +1,11 @@
--- `placing::carrying::carry_out` meets its contract: what a step writes changes no length, so what the steps behind it need still
--- holds; and the second file stands behind the first. Assumes nothing.
-use borrow.Author.Needs.{needs}
-use mathlib.Core.Path.{_≡_, refl, sym, _∙_}
+-- `placing::carrying::carry_out` meets its contract: what is written before a closing leaves the lengths as they were, and the
+-- second file stands behind the first. Assumes nothing.
+use mathlib.Core.Path.{_≡_, sym, _∙_}
 use lib.ListN.{length, length-map}
 use Rattle.placing.specs.Made.{closable-kept, carried-made}
+use borrow.Author.Needs.{needs}
 use Rattle.placing.proofs.carrying.carry_out.Statement.{statement}
 use Rattle.placing.proofs.carrying.carry_out.Tie as tie
-
-region-base-requires : tie.Need-region-base-requires
-region-base-requires c κs = search needs
 
 size-if-requires : tie.Need-size-if-requires
 size-if-requires c κs = search needs
@@ -20,7 +17,7 @@ cast-used : tie.Need-cast-used
 cast-used c = search needs
 
 close-if-requires : tie.Need-close-if-requires
-close-if-requires c κs = λ e. let n = c .before .before .before .before .before in closable-kept refl (n .region-base .ensures) refl refl refl (n .before .before .before .before .pre .before e)
+close-if-requires c κs = search needs
 
 append-requires : tie.Need-append-requires
 append-requires c κs = search needs
@@ -30,7 +27,7 @@ close-if-requires-2 c κs = λ e.
     let a = c .before .before .before .before in
     let o = a .before .before .before .before in
     let n = o .before .before .before .before .before in
-    closable-kept refl (n .before .region-base .ensures) (n .size-if .ensures .0) (a .append .kept .0) (o .close-if .kept .1 .1 .1 .1 .1 .1 .0) (n .before .before .before .before .before .pre .behind e)
+    closable-kept (n .size-if .ensures .0) (a .append .kept .0) (o .close-if .kept .1 .1 .1 .1 .1 .1 .0) (n .before .before .before .before .pre .behind e)
 
 same-length : tie.Need-same-length
 same-length c = search needs
@@ -43,17 +40,18 @@ returns c =
     let a = c .before .before .before .before .before .before .before in
     let o = a .before .before .before .before in
     let n = o .before .before .before .before .before in
-    let s = n .before .before .before .before .before in
+    let s = n .before .before .before .before in
     let x = s .args in
-    let twenty : length (x .r .settings .filter) ≡ 20 = sym (length-map (x .r .settings .filter) _) ∙ s .good .1 .1 .1 .0 .1 .1 .0 .1 .1 .0 .1 .0 .1 in
-    carried-made (x .m) (x .store .now) (x .output .now) (x .r) (x .p) (x .h) (x .body .now) (x .i) (s .pre) twenty (n .before .region-base .ensures)
-    (n .size-if .ensures .0) (o .close-if .ensures) (a .append .ensures) (c .before .before .close-if2 .ensures)
+    let twenty : length (x .r .settings .filter) ≡ 20 = sym (length-map (x .r .settings .filter) _) ∙ s .good .1 .1 .1 .1 .0 .1 .1 .0 .1 .1 .0 .1 .0 .1 in (
+      a .append .ensures,
+      carried-made (x .n) (x .from) (x .store .now) (x .output .now) (x .r) (x .p) (x .h) (x .body .now) (s .pre) twenty _ (n .size-if .ensures .0)
+          (o .close-if .ensures) (c .before .before .close-if2 .ensures),
+    )
 
 pub carry-out-spec : {M : Type 1} → statement M
 carry-out-spec =
     tie.close
     (tie.spec
-    region-base-requires
     size-if-requires
     cast-limit
     cast-used

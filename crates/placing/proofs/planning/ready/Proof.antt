@@ -2,7 +2,7 @@
 use borrow.Author.Needs.{needs}
 use mathlib.Core.Path.{ap, _∙_}
 use Rattle.state.specs.declared.Route.{Route}
-use Rattle.manager.specs.Rules.{openedRoute}
+use Rattle.events.specs.Rules.{openedRoute}
 use Rattle.placing.proofs.planning.ready.Statement.{statement}
 use Rattle.placing.proofs.planning.ready.Tie as tie
 

@@ -1,39 +1,45 @@
 -- `receiving::pass::lost` meets its contract: its two ways out are the definition's. Assumes nothing.
+use mathlib.Core.Path.{refl}
+use Rattle.receiving.specs.Told.{lost-refused, lost-done}
 use borrow.Author.Needs.{needs}
-use mathlib.Core.Path.{sym, _∙_}
-use borrow.Author.Tests.{eq-eqb, ne-eqb}
 use Rattle.receiving.proofs.pass.lost.Statement.{statement}
 use Rattle.receiving.proofs.pass.lost.Tie as tie
-
-mul-r : tie.Need-mul-r
-mul-r c = search needs
-
-element-copy-out-r : tie.Need-element-copy-out-r
-element-copy-out-r c = search needs
 
 refuse-requires : tie.Need-refuse-requires
 refuse-requires c κs = search needs
 
 returns : tie.Need-returns
-returns c = c .refuse .ensures ∙ sym (rw (eq-eqb _ _ (c .before .if1 .taken)))
+returns c = let s = c .before .before .before .before in lost-refused (s .pre) (s .args .t) (c .before .if1 .taken) (c .refuse .ensures)
 
-lost-route-requires : tie.Need-lost-route-requires
-lost-route-requires c κs = search needs
+add-r : tie.Need-add-r
+add-r c = search needs
 
-changed-requires : tie.Need-changed-requires
-changed-requires c κs = search needs
+put-requires : tie.Need-put-requires
+put-requires c κs =
+    let p = c .before .before .before .before .before .pre in
+    (p .number, p .there, p .opened, p .appended)
+
+cast-accept : tie.Need-cast-accept
+cast-accept c = search needs
+
+accept-requires : tie.Need-accept-requires
+accept-requires c κs = search needs
+
+same-length : tie.Need-same-length
+same-length c = search needs
 
 returns-2 : tie.Need-returns-2
-returns-2 c = rw (ne-eqb _ _ (c .before .before .if1 .left)) (cc)
+returns-2 c = let s = c .before .before .before .before .before .before .before .before .before in lost-done (s .pre) (s .args .t) (c .before .before .before .before .before .before .if1 .left) refl (c .accept .ensures) (c .before .before .before .put .ensures)
 
 pub lost-spec : {M : Type 1} → statement M
 lost-spec =
     tie.close
     (tie.spec
-    mul-r
-    element-copy-out-r
     refuse-requires
     returns
-    lost-route-requires
-    changed-requires
+    add-r
+    put-requires
+    cast-accept
+    accept-requires
+    same-length
     returns-2)

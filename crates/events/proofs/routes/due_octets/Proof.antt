@@ -1,0 +1,33 @@
+-- `events::routes::due_octets` meets its contract: the two ways are the definition's, and a header of at most 52 octets and a
+-- filter's 255, with record octets of 32 bits, bound the size. Assumes nothing.
+use mathlib.Core.Path.{sym, ap, _∙_}
+use mathlib.Core.Bool.{Bool, cond}
+use native.Mathlib.Omega.{arith}
+use borrow.Author.Needs.{needs}
+use Rattle.state.specs.Size.{size-most}
+use Rattle.filing.specs.Closing.{closedSize}
+use Rattle.events.proofs.routes.due_octets.Statement.{statement}
+use Rattle.events.proofs.routes.due_octets.Tie as tie
+
+closed-size-requires : tie.Need-closed-size-requires
+closed-size-requires c κs = search needs
+
+is-due-requires : tie.Need-is-due-requires
+is-due-requires c κs = search needs
+
+returns : tie.Need-returns
+returns c =
+    let a = c .before .before .before .args in
+    let f = a .r .file in
+    let due = sym (c .if1 .taken) ∙ c .before .is-due .ensures in (
+      c .before .before .closed-size .ensures ∙ ap (λ (b : Bool). cond b (closedSize (a .r)) 0) due,
+      omega (arith, size-most (a .r .settings .octets) (f .high) (f .low)),
+    )
+
+returns-2 : tie.Need-returns-2
+returns-2 c =
+    let a = c .before .before .before .args in
+    (ap (λ (b : Bool). cond b (closedSize (a .r)) 0) (sym (c .if1 .left) ∙ c .before .is-due .ensures), search needs)
+
+pub due-octets-spec : {M : Type 1} → statement M
+due-octets-spec = tie.close (tie.spec closed-size-requires is-due-requires returns returns-2)

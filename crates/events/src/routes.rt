@@ -1,0 +1,91 @@
+// What an opening and a closing do to a route, and when and with how many octets its file closes (document 01, The events).
+ghost use mathlib.Core.Path.{_≡_};
+ghost use mathlib.Core.Bool.{cond};
+ghost use Prim.Native.Nat.{_≤_};
+ghost use Rattle.filing.specs.Closing.{closedSize};
+ghost use Rattle.events.specs.Rules.{openedRoute, closedRoute, due};
+use record::Release;
+use state::OpenFile;
+use state::Route;
+
+// The route with an empty file, which takes the next sequence number; the number after 4,294,967,295 is 0. Losses and note stay:
+// they count since the last file closed.
+pub fn opened_route(r: Route, t: u32) -> Route
+    ensures { λ q. ⌜ q ≡ openedRoute r t ⌝ }
+{
+    let s = r.settings;
+    let configured = s.release;
+    let file = OpenFile {
+        sequence: r.next,
+        opened: t,
+        appended: t,
+        high: configured,
+        low: configured,
+        format: 0,
+        count: 0,
+        octets: 0,
+    };
+    Route {
+        settings: s,
+        next: std::num::wrapping_add_u32(r.next, 1),
+        losses: r.losses,
+        note: r.note,
+        open: true,
+        file: file,
+    }
+}
+
+// The route without a file, its losses and its note cleared.
+pub fn closed_route(r: Route) -> Route
+    ensures { λ q. ⌜ q ≡ closedRoute r ⌝ }
+{
+    let s = r.settings;
+    let none = Release {
+        release: 0,
+        extension: 0,
+        version: 0,
+    };
+    let file = OpenFile {
+        sequence: 0,
+        opened: 0,
+        appended: 0,
+        high: none,
+        low: none,
+        format: 0,
+        count: 0,
+        octets: 0,
+    };
+    Route {
+        settings: s,
+        next: r.next,
+        losses: 0,
+        note: false,
+        open: false,
+        file: file,
+    }
+}
+
+// The octets of the route's file when it closes.
+pub fn closed_size(r: Route) -> usize
+    ensures { λ n. ⌜ n ≡ closedSize r ⌝ }
+{
+    let s = r.settings;
+    let f = r.file;
+    let header = state::header_size(s.octets, f.high, f.low);
+    header as usize + f.octets as usize
+}
+
+// Whether the route's file has reached its open-time limit at time t. The sum is taken in 64 bits.
+pub fn is_due(t: u32, r: Route) -> bool
+    ensures { λ b. ⌜ b ≡ due t r ⌝ }
+{
+    r.open & (0 < r.settings.age) & (r.file.opened as u64 + r.settings.age as u64 <= t as u64)
+}
+
+// The octets that a TICK at time t closes of the route.
+pub fn due_octets(t: u32, r: Route) -> usize
+    ensures { λ n. ⌜ (n ≡ cond (due t r) (closedSize r) 0) × (n ≤ 4294967602) ⌝ }
+{
+    let size = closed_size(r);
+    if is_due(t, r) { size } else { 0 }
+}

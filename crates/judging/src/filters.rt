@@ -1,0 +1,116 @@
+// Filters that differ (document 01, Refusals 3 and 18): no two configured routes have the same.
+ghost use mathlib.Core.Path.{_≡_};
+ghost use Prim.Native.Nat.{_+_, _≤_, _<_};
+ghost use lib.ListN.{length};
+ghost use Rattle.state.specs.Manager.{settingsAt};
+ghost use Rattle.state.specs.Bounds.{sameFilter, newTo, distinct};
+ghost use Rattle.words.specs.Words.{settingsIn, managerIn};
+ghost use Rattle.judging.specs.Sums.{filterSum, SumsOf, newSum, distinctSums};
+use words::top_of;
+
+// Whether the routes that these words begin with have the same filter: as long, and the same words.
+fn same_filter(a: &[u32], b: &[u32]) -> bool
+    requires { ⌜ (18 ≤ length (now a)) × (18 ≤ length (now b)) ⌝ }
+    ensures { λ r. ⌜ r ≡ sameFilter (settingsIn (now (a .entry))) (settingsIn (now (b .entry))) ⌝ }
+{
+    let one = top_of(a[5]);
+    let other = top_of(b[5]);
+    (one == other)
+        & ((a[0] == b[0]) & ((a[1] == b[1]) & ((a[2] == b[2]) & ((a[3] == b[3]) & (a[4] == b[4])))))
+}
+
+// Whether no route below n has the filter of route i.
+fn is_new(words: &[u32], i: usize, n: usize) -> bool
+    requires { ⌜ (length (now words) ≡ 152) × (i < 8) × (n ≤ 8) ⌝ }
+    ensures { λ b. ⌜ b ≡ newTo (managerIn (now (words .entry))) (settingsAt (managerIn (now (words .entry))) i) n ⌝ }
+{
+    let of = 8 + 18 * i;
+    let mut new = true;
+    let mut j: usize = 0;
+    while j < n {
+        let at = 8 + 18 * j;
+        let same = same_filter(&words[at..], &words[of..]);
+        new = new & !same;
+        j += 1;
+    }
+    new
+}
+
+// The sum of five words, which 64 bits hold.
+fn sum_of(a: u32, b: u32, c: u32, d: u32, e: u32) -> u64
+    ensures { λ r. ⌜ r ≡ a + b + c + d + e ⌝ }
+{
+    a as u64 + b as u64 + c as u64 + d as u64 + e as u64
+}
+
+// The sum of the filter of the route that these words begin with.
+fn filter_sum(part: &[u32]) -> u64
+    requires { ⌜ 18 ≤ length (now part) ⌝ }
+    ensures { λ r. ⌜ r ≡ filterSum (now (part .entry)) ⌝ }
+{
+    sum_of(part[0], part[1], part[2], part[3], part[4])
+}
+
+// The sums of the routes below n.
+fn filter_sums(words: &[u32], n: usize) -> [u64; 8]
+    requires { ⌜ (length (now words) ≡ 152) × (n ≤ 8) ⌝ }
+    ensures { λ r. ⌜ SumsOf (now (words .entry)) r n ⌝ }
+{
+    let mut sums = [0u64; 8];
+    let mut i: usize = 0;
+    while i < n {
+        let at = 8 + 18 * i;
+        sums[i] = filter_sum(&words[at..]);
+        i += 1;
+    }
+    sums
+}
+
+// Whether none of the sums below n is s.
+fn is_new_sum(sums: &[u64; 8], s: u64, n: usize) -> bool
+    requires { ⌜ n ≤ 8 ⌝ }
+    ensures { λ b. ⌜ b ≡ newSum (now (sums .entry)) s n ⌝ }
+{
+    let mut new = true;
+    let mut j: usize = 0;
+    while j < n {
+        new = new & !(sums[j] == s);
+        j += 1;
+    }
+    new
+}
+
+// Whether no two of the sums below n are equal.
+fn are_sums_distinct(sums: &[u64; 8], n: usize) -> bool
+    requires { ⌜ n ≤ 8 ⌝ }
+    ensures { λ b. ⌜ b ≡ distinctSums (now (sums .entry)) n ⌝ }
+{
+    let mut differ = true;
+    let mut i: usize = 0;
+    while i < n {
+        let new = is_new_sum(sums, sums[i], i);
+        differ = differ & new;
+        i += 1;
+    }
+    differ
+}
+
+// Whether no two of the routes below n have equal filters. As a rule a number of each tells: only where two are equal are the filters
+// compared.
+pub fn are_distinct(words: &[u32], n: usize) -> bool
+    requires { ⌜ (length (now words) ≡ 152) × (n ≤ 8) ⌝ }
+    ensures { λ b. ⌜ b ≡ distinct (managerIn (now (words .entry))) n ⌝ }
+{
+    let sums = filter_sums(words, n);
+    if are_sums_distinct(&sums, n) {
+        return true;
+    }
+    let mut all = true;
+    let mut i: usize = 0;
+    while i < n {
+        let new = is_new(words, i, i);
+        all = all & new;
+        i += 1;
+    }
+    all
+}
