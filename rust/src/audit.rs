@@ -1,8 +1,11 @@
 //! A third look at what `cdrgate` printed: each closed file is read by the second reader, and held
-//! against the accepted events alone. It has no rules of when a file closes, only of what is in it.
+//! against the accepted events alone; and at each Q the losses that a route's files told and those
+//! pending must be all that the answers said. It has no rules of when a file closes, only of what is
+//! in it.
 
 #![forbid(unsafe_code)]
 
+use crate::counts::LossCounts;
 use crate::gate::{self, Line, Received};
 use crate::manager::{indicator, NODE_OCTETS, ROUTE_OCTETS};
 use crate::second::{self, Contents, EXTENDED};
@@ -10,6 +13,18 @@ use std::collections::BTreeMap;
 
 /// How often each number came.
 pub type Tally = BTreeMap<u32, usize>;
+
+/// Losses in words, and the test of whether a file tells them.
+type Telling = (&'static str, fn(&LossCounts) -> bool);
+
+/// What some files of a run must tell.
+pub const TOLD: [Telling; 5] = [
+    ("known losses", |told| told.losses > 0),
+    ("above 127", |told| told.losses > 127),
+    ("unrouted records", |told| told.unrouted > 0),
+    ("above 127", |told| told.unrouted > 127),
+    ("both", |told| told.losses > 0 && told.unrouted > 0),
+];
 
 /// What all scripts of a run came to.
 #[derive(Default)]
@@ -19,6 +34,11 @@ pub struct Counts {
     pub outcomes: Tally,
     pub reasons: Tally,
     pub records: usize,
+    /// Closed files that told each of `TOLD`.
+    pub told: [usize; TOLD.len()],
+    /// Routes whose losses were balanced at a Q, and those of them with some told and some pending.
+    pub balances: usize,
+    pub full_balances: usize,
     /// The most files that one event closed.
     pub most_files: usize,
     /// Lines at which a run ended.
@@ -30,8 +50,11 @@ struct Account {
     filter: Vec<u8>,
     /// The sequence number of the file that is open or opens next.
     sequence: u32,
-    losses: u32,
-    note: bool,
+    /// Losses and unrouted records since its last file closed, and since the settings.
+    pending: LossCounts,
+    all: LossCounts,
+    /// What its files told of them.
+    told: LossCounts,
     /// The open file's records, one behind another.
     records: Vec<u8>,
     count: usize,
@@ -91,12 +114,15 @@ fn look<'a>(
             Ok(true)
         }
         (b'Q', Line::State) => {
-            let states = answers.take(accounts.len());
-            let count = states.filter(|line| line.starts_with(b"q ")).count();
-            let is_whole = count == accounts.len();
-            is_whole
-                .then_some(true)
-                .ok_or("a route's state is missing".to_owned())
+            let [_, unrouted] = numbers(rest)?;
+            if accounts.iter().any(|each| each.all.unrouted != unrouted) {
+                return Err(format!("{unrouted} is not the number of unrouted records"));
+            }
+            for (route, account) in accounts.iter().enumerate() {
+                let state = answers.next().and_then(|line| line.strip_prefix(b"q"));
+                account.balance(route, state.ok_or("a route's state is missing")?, counts)?;
+            }
+            Ok(true)
         }
         (b'A', event) => {
             let [refusal, outcome, route, files, octets] = numbers(rest)?;
@@ -143,8 +169,9 @@ fn open_accounts(settings: &[u8], routes: usize) -> Vec<Account> {
     let account = |route: &[u8]| Account {
         filter: route[2..][..usize::from(route[1])].to_vec(),
         sequence: u32::from_be_bytes([route[37], route[38], route[39], route[40]]),
-        losses: 0,
-        note: false,
+        pending: LossCounts::default(),
+        all: LossCounts::default(),
+        told: LossCounts::default(),
         records: Vec::new(),
         count: 0,
     };
@@ -167,8 +194,8 @@ fn settle<'a>(
     *counts.outcomes.entry(answer.outcome).or_default() += 1;
     counts.most_files = counts.most_files.max(answer.files);
     match answer.outcome {
-        3 => accounts[answer.route].losses += 1,
-        4 => accounts.iter_mut().for_each(|account| account.note = true),
+        3 => accounts[answer.route].lose(),
+        4 => accounts.iter_mut().for_each(Account::miss),
         _ => {}
     }
     let mut placed = match event {
@@ -215,7 +242,12 @@ fn settle_file(
             .for_each(|record| account.book(record));
     }
     account.hold_against(file, &contents)?;
-    account.start_anew();
+    let told = LossCounts::read(&file[contents.private]).ok_or("a file tells no losses")?;
+    account.hold_losses_against(&told)?;
+    for (count, (_, tells)) in counts.told.iter_mut().zip(TOLD) {
+        *count += usize::from(tells(&told));
+    }
+    account.start_anew(told);
     Ok(reason)
 }
 
@@ -253,8 +285,20 @@ impl Account {
         self.count += 1;
     }
 
+    /// Counts a record that the route lost.
+    fn lose(&mut self) {
+        self.pending.losses += 1;
+        self.all.losses += 1;
+    }
+
+    /// Counts an unrouted record.
+    fn miss(&mut self) {
+        self.pending.unrouted += 1;
+        self.all.unrouted += 1;
+    }
+
     fn hold_against(&self, file: &[u8], contents: &Contents) -> Result<(), String> {
-        let lost = indicator(self.losses, self.note);
+        let lost = indicator(self.pending.losses, self.pending.unrouted);
         let header = &contents.header;
         let found = (header.sequence, header.lost, contents.count);
         let booked = (self.sequence, lost, self.count);
@@ -268,11 +312,81 @@ impl Account {
         }
     }
 
-    fn start_anew(&mut self) {
+    fn hold_losses_against(&self, told: &LossCounts) -> Result<(), String> {
+        match *told == self.pending {
+            true => Ok(()),
+            false => Err(format!("the file tells {told:?}, not {:?}", self.pending)),
+        }
+    }
+
+    /// What the files told and what the state has pending must be all that was lost here and all
+    /// that was unrouted.
+    fn balance(&self, route: usize, state: &[u8], counts: &mut Counts) -> Result<(), String> {
+        let [number, _, _, losses, unrouted, _] = numbers(state)?;
+        let pending = LossCounts { losses, unrouted };
+        let sum = LossCounts {
+            losses: self.told.losses + losses,
+            unrouted: self.told.unrouted + unrouted,
+        };
+        if (number as usize, sum) != (route, self.all) {
+            let Self { told, all, .. } = self;
+            return Err(format!(
+                "route {route}: {told:?} in files and {pending:?} pending, not {all:?} in all"
+            ));
+        }
+        let none = LossCounts::default();
+        counts.balances += 1;
+        counts.full_balances += usize::from(self.told != none && pending != none);
+        Ok(())
+    }
+
+    fn start_anew(&mut self, told: LossCounts) {
         self.sequence = self.sequence.wrapping_add(1);
-        self.losses = 0;
-        self.note = false;
+        self.told.losses += told.losses;
+        self.told.unrouted += told.unrouted;
+        self.pending = LossCounts::default();
         self.records.clear();
         self.count = 0;
+    }
+}
+
+#[cfg(test)]
+mod tests {
+    use super::*;
+
+    /// A loss and two unrouted records, a file, and a loss behind it.
+    const SCRIPT: &str = "S 0100000000000000000000FFFFC0000201059F020000000000000000000000000000\
+        0000000000000000000080000000000000000000800000000007\n\
+        R 0 1 - 0 0 0 0 0 -\nR 0 2 - 0 0 0 0 0 -\nR 0 2 - 0 0 0 0 0 -\nQ\n\
+        O 0 0\nC 0 0 0\nR 0 1 - 0 0 0 0 0 -\nQ\n";
+
+    fn audited(printed: &str) -> Result<Counts, String> {
+        let mut counts = Counts::default();
+        audit(SCRIPT.as_bytes(), printed.as_bytes(), &mut counts).map(|()| counts)
+    }
+
+    #[test]
+    fn what_is_told_and_what_is_pending_is_balanced() {
+        let printed = String::from_utf8(gate::replay(SCRIPT.as_bytes())).unwrap();
+        let counts = audited(&printed).unwrap();
+        assert_eq!(counts.told, [1, 0, 1, 0, 1]);
+        assert_eq!((counts.balances, counts.full_balances), (2, 1));
+        let wrong = [
+            // The file without its counts, and with others.
+            ("00000009010000000100000002", "00000009020000000100000002"),
+            ("00000009010000000100000002", "00000009010000000200000002"),
+            ("00000009010000000100000002", "00000009010000000100000001"),
+            // The state before the file and behind it.
+            ("q 0 0 0 1 2 7", "q 0 0 0 0 2 7"),
+            ("q 0 0 0 1 2 7", "q 0 0 0 1 1 7"),
+            ("q 0 0 0 1 0 8", "q 0 0 0 2 0 8"),
+            ("q 0 0 0 1 0 8", "q 0 0 0 1 2 8"),
+            ("Q 0 2", "Q 0 3"),
+        ];
+        for (right, other) in wrong {
+            let changed = printed.replace(right, other);
+            assert_ne!(changed, printed, "{right}");
+            assert!(audited(&changed).is_err(), "{other}");
+        }
     }
 }

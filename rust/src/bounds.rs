@@ -1,6 +1,6 @@
 //! Refusal 18: whether a state is within its bounds. Written from document 01's sentence on it,
-//! condition by condition, and from nothing of the proved code. Routes beyond the configured number
-//! and a closed route's file are not judged.
+//! condition by condition, with the header of document 02, and from nothing of the proved code. Routes
+//! beyond the configured number and a closed route's file are not judged, and no counter is.
 
 #![forbid(unsafe_code)]
 
@@ -60,10 +60,10 @@ impl Held {
 /// file with a count has octets: it has four for each.
 const OF_FILE: [Condition<Held>; 17] = [
     ("opening not after last append", |h| {
-        h.file.opened <= h.file.appended
+        h.file.opened.get() <= h.file.appended
     }),
     ("last append not after last time", |h| {
-        h.file.appended.get() <= h.last
+        h.file.appended <= h.last
     }),
     ("low not above high", |h| h.file.low <= h.file.high),
     ("low is high with flag 1", |h| {
@@ -88,7 +88,7 @@ const OF_FILE: [Condition<Held>; 17] = [
     }),
     ("empty: no octets", |h| h.if_empty(h.file.octets == 0)),
     ("empty: last append is the opening", |h| {
-        h.if_empty(h.file.appended == h.file.opened)
+        h.if_empty(h.file.appended == h.file.opened.get())
     }),
     ("empty: high as configured", |h| {
         h.if_empty(h.file.high == h.settings.release)
@@ -160,7 +160,7 @@ mod tests {
         let route = &mut state.routes[0];
         route.open = true;
         route.settings.limit = 128;
-        route.file.appended = Minute::lower(10);
+        route.file.appended = 10;
         (route.file.count, route.file.octets) = (1, 4);
         state
     }
@@ -172,7 +172,11 @@ mod tests {
         // Two releases in one record, more octets than it has, and a number that is used.
         let file = &mut state.routes[0].file;
         (file.high.release, file.low.release) = (7, 7);
-        (file.high.extension, file.octets) = (9, 128 - 52);
+        (file.high.extension, file.octets) = (9, 128 - 63);
+        assert!(broken(&state).is_empty());
+        // Counters at their end are no matter of 18.
+        (state.unrouted, state.routes[0].unrouted) = (u32::MAX, u32::MAX);
+        state.routes[0].losses = u32::MAX;
         assert!(broken(&state).is_empty());
         // The other route is not configured, and its filter the same.
         state.routes[1].open = true;
@@ -182,9 +186,18 @@ mod tests {
     }
 
     #[test]
+    fn the_loss_counts_stand_in_the_header() {
+        let mut state = right();
+        state.routes[0].file.octets = 128 - 61;
+        assert!(broken(&state).is_empty());
+        state.routes[0].file.octets += 1;
+        assert_eq!(broken(&state), ["header and records within the limit"]);
+    }
+
+    #[test]
     fn sums_do_not_wrap() {
         let mut state = right();
-        state.routes[0].file.octets = u32::MAX - 49;
+        state.routes[0].file.octets = u32::MAX - 60;
         assert_eq!(broken(&state), ["header and records within the limit"]);
         let mut state = right();
         state.routes[0].file.count = 1 << 30;

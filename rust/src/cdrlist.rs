@@ -60,6 +60,14 @@ mod tests {
     }
 
     #[test]
+    fn the_same_file_as_the_manager_closes_it() {
+        let file = b"000000430000003D83831080080010800800000000010000000704FFFFFFFF\
+            00000000000000000000FFFFC000020100000000090100000000000000000002832FA1B2";
+        let file = gate::octets(file).unwrap();
+        assert_eq!(list(&file), "F 67 61 1 7 4 0\nR 0 61 2\n");
+    }
+
+    #[test]
     fn an_input_of_65_536_octets_is_taken_and_no_longer_one() {
         let release = Default::default();
         let listed = |length| {

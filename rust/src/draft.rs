@@ -1,5 +1,6 @@
 //! Drafts of files: right header fields and records at random, laid out apart from either writer.
 
+use crate::counts::LossCounts;
 use crate::dates::LAST_DAYS;
 use crate::fields::{Header, RecordHeader, Release, Timestamp};
 use crate::random::Random;
@@ -50,10 +51,14 @@ impl Draft {
             filter: some_octets(random, 20),
             ..Self::default()
         };
-        if random.once_in(2) {
-            let length = random.pick(&[1, 2, 40]);
-            draft.private = some_octets(random, length);
-        }
+        draft.private = match random.below(6) {
+            0..=2 => Vec::new(),
+            3 => loss_counts(random),
+            _ => {
+                let length = random.pick(&[1, 2, 40]);
+                some_octets(random, length)
+            }
+        };
         for _ in 0..count {
             // Now and then the release stays, so that files of one release come too.
             let release = if mix == 3 {
@@ -204,6 +209,15 @@ pub(crate) fn release(random: &mut Random, mix: usize) -> Release {
         extension,
         version: random.below(32) as u8,
     }
+}
+
+/// A private extension as the manager writes it, of any numbers.
+fn loss_counts(random: &mut Random) -> Vec<u8> {
+    let counts = LossCounts {
+        losses: random.word() as u32,
+        unrouted: random.word() as u32,
+    };
+    counts.octets().to_vec()
 }
 
 /// Mostly up to `usual` octets, at times many, seldom the most that 16 bits may count.

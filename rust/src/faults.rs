@@ -5,7 +5,7 @@
 
 use self::Side::{Past, Within};
 use crate::fields::Release;
-use crate::forge::{empty, fill, right};
+use crate::forge::{empty, fill, right, NEW};
 use crate::manager::{LONGEST_FILTER, MOST_ROUTES};
 use crate::random::Random;
 use crate::second::{LAST_MINUTE, LONGEST_FILE};
@@ -14,9 +14,6 @@ use crate::states::{Minute, Route, State};
 /// Octets by which a size limit is raised where the header may have grown: by a filter of any
 /// length that an octet can say, and by two extensions.
 const MORE: u32 = 300;
-
-/// An octet that no filter of `right` has.
-const NEW: u8 = 0xEE;
 
 /// What a condition is about: a route's settings are not judged of a route beyond the configured
 /// number, and its file not of a closed route either.
@@ -54,6 +51,7 @@ impl Side {
         self.above_up_to(random, edge.into(), u8::MAX.into()) as u8
     }
 
+    /// As `above`, in the 31 bits of an opening.
     fn above_minute(self, random: &mut Random, edge: u32) -> Minute {
         Minute::lower(self.above_up_to(random, edge, Minute::MAX.get()))
     }
@@ -287,7 +285,7 @@ pub const FAULTS: [Fault; 30] = [
         of: Of::File,
         put: |random, state, at, side| {
             let file = &mut filled(random, state, at).file;
-            file.opened = side.above_minute(random, file.appended.get());
+            file.opened = side.above_minute(random, file.appended);
         },
     },
     Fault {
@@ -295,7 +293,10 @@ pub const FAULTS: [Fault; 30] = [
         of: Of::File,
         put: |random, state, at, side| {
             let last = state.last;
-            filled(random, state, at).file.appended = side.above_minute(random, last);
+            // The last one is right in its lower 31 bits.
+            let past = Past.above(random, last);
+            let past = random.pick(&[past, past, past, 1 << 31 | last]);
+            filled(random, state, at).file.appended = side.pick(last, past);
         },
     },
     Fault {
@@ -417,7 +418,7 @@ pub const FAULTS: [Fault; 30] = [
             let last = state.last;
             let file = &mut emptied(random, state, at).file;
             file.opened = Minute::lower(side.pick(last, last - 1));
-            file.appended = Minute::lower(last);
+            file.appended = last;
         },
     },
     Fault {

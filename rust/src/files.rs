@@ -3,6 +3,7 @@
 
 use crate::draft::{release, release_octet, Draft, Laid, TIME_WIDTHS};
 use crate::fields::Release;
+use crate::gate;
 use crate::random::Random;
 use crate::second::{EXTENDED, FIXED, LONGEST_FILE};
 
@@ -25,7 +26,8 @@ const fn family(
     }
 }
 
-pub const FAMILIES: [Family; 17] = [
+pub const FAMILIES: [Family; 18] = [
+    family("document 01's file", 1, file_case),
     family("right", 20_000, right),
     family("header field damaged", 90, header_fields),
     family("record boundary damaged", 90, record_boundaries),
@@ -74,6 +76,19 @@ fn mend(mut file: Vec<u8>) -> Vec<u8> {
         set(&mut file, 0, length.to_be_bytes());
     }
     file
+}
+
+/// Document 01's file without a private extension, and as the manager closes it.
+const FILE_CASE: [&[u8]; 2] = [
+    b"000000380000003283831080080010800800000000010000000704FFFFFFFF00000000000000000000FFFFC0000201\
+        0000000002832FA1B2",
+    b"000000430000003D83831080080010800800000000010000000704FFFFFFFF00000000000000000000FFFFC0000201\
+        00000000090100000000000000000002832FA1B2",
+];
+
+fn file_case(_: &mut Random) -> Vec<Vec<u8>> {
+    let file = |digits| gate::octets(digits).expect("hexadecimal digits");
+    FILE_CASE.map(file).to_vec()
 }
 
 fn right(random: &mut Random) -> Vec<Vec<u8>> {
@@ -515,6 +530,7 @@ mod tests {
     #[test]
     fn right_files_are_right() {
         assert_eq!(answers(right, 2_000), [0]);
+        assert_eq!(answers(file_case, 1), [0]);
     }
 
     #[test]
@@ -524,7 +540,9 @@ mod tests {
         assert_eq!(answers(longest_records, 10), [0, 11]);
         assert_eq!(answers(cuts, 20), [8, 9, 11, 12]);
         assert_eq!(answers(grown, 40), [8, 11, 12]);
-        assert_eq!(answers(header_lengths, 40), [9, 11]);
+        // 8 for the least file less an octet; and a file of no filter may lose the octets of f, and
+        // those of p take their place.
+        assert_eq!(answers(header_lengths, 40), [0, 8, 9, 11]);
         assert_eq!(answers(reserved_lengths, 1), [0, 9, 10, 11]);
         assert_eq!(answers(no_private_octets, 20), [0, 9]);
         assert_eq!(answers(low_above_high, 40), [0, 13]);

@@ -12,6 +12,9 @@ use crate::second::{LAST_MINUTE, WIDEST_OFFSET};
 use crate::states::{Minute, OpenFile, Route, RouteSettings, State};
 use crate::words::{Words, WORDS};
 
+/// An octet that no filter of `right` has.
+pub(crate) const NEW: u8 = 0xEE;
+
 /// Any number of routes that may be configured.
 pub fn count(random: &mut Random) -> usize {
     random.between(1, MOST_ROUTES)
@@ -122,9 +125,13 @@ fn any_count(random: &mut Random) -> u32 {
     random.pick(&[few, few, few, few, 1 << 8 | few, any])
 }
 
-/// A loss counter: about where the indicator changes, at its end, and one below it.
+/// A counter of losses or of unrouted records: about where the indicator changes, beyond one octet,
+/// at its end, and one below it.
 fn counter(random: &mut Random) -> u32 {
-    random.pick(&[0, 1, 126, 127, 128, 40_000, u32::MAX - 1, u32::MAX])
+    let any = random.word() as u32;
+    let few = random.pick(&[0, 1, 126, 127, 128, 256]);
+    let end = random.pick(&[u32::MAX - 1, u32::MAX]);
+    random.pick(&[few, few, few, 40_000, any, any, end])
 }
 
 fn any_release(random: &mut Random) -> Release {
@@ -139,7 +146,7 @@ fn any_file(random: &mut Random) -> OpenFile {
     OpenFile {
         sequence: number(random),
         opened: Minute::lower(number(random)),
-        appended: Minute::lower(number(random)),
+        appended: number(random),
         high: any_release(random),
         low: any_release(random),
         format: random.octet(),
@@ -163,7 +170,7 @@ fn any_route(random: &mut Random) -> Route {
         },
         next: number(random),
         losses: counter(random),
-        note: random.once_in(2),
+        unrouted: counter(random),
         open: random.once_in(2),
         file: any_file(random),
     }
@@ -233,7 +240,7 @@ pub(crate) fn empty(random: &mut Random, route: &mut Route, last: u32) {
     route.open = true;
     route.file = OpenFile {
         opened,
-        appended: opened,
+        appended: opened.get(),
         high: route.settings.release,
         low: route.settings.release,
         format: random.octet() % 8,
@@ -266,7 +273,7 @@ pub(crate) fn fill(random: &mut Random, route: &mut Route, last: u32) {
     route.open = true;
     route.file = OpenFile {
         opened: Minute::lower(opened),
-        appended: Minute::lower(appended),
+        appended,
         high,
         low,
         format: random.octet() % 8,

@@ -1,9 +1,9 @@
 //! The output of the program `cdrgate` for a script of events, by the plain manager: to the letter
-//! of ../../shared/CDRGATE.md.
+//! of ../../shared/CDRGATE.md, with request 3.
 
 #![forbid(unsafe_code)]
 
-use crate::manager::{Accepted, Answer, Arrival, Manager};
+use crate::manager::{Accepted, Answer, Arrival, Manager, RouteState};
 use std::io::Write;
 
 /// The most octets of a store and of an output.
@@ -289,9 +289,15 @@ fn print_state(manager: &Manager, printed: &mut Vec<u8>) {
     let (last, unrouted) = (manager.last(), manager.unrouted());
     print(printed, format_args!("Q {last} {unrouted}"));
     for (index, route) in manager.routes().enumerate() {
-        let [is_open, note] = [route.is_open, route.note].map(u8::from);
-        let (count, losses, next) = (route.count, route.losses, route.next);
-        let state = format_args!("q {index} {is_open} {count} {losses} {note} {next}");
+        let RouteState {
+            count,
+            losses,
+            unrouted,
+            next,
+            ..
+        } = route;
+        let is_open = u8::from(route.is_open);
+        let state = format_args!("q {index} {is_open} {count} {losses} {unrouted} {next}");
         print(printed, state);
     }
 }
@@ -316,9 +322,9 @@ mod tests {
     #[test]
     fn the_example() {
         let script = "R 0 0 - 4 3 0 1 15 A1B2\nC 0 0 4\nQ\n";
-        let expected = "A 0 2 0 0 0\nA 0 5 0 1 56\n\
-            F 000000380000003283831080080010800800000000010000000704FFFFFFFF0000000000000000000\
-            0FFFFC00002010000000002832FA1B2\n\
+        let expected = "A 0 2 0 0 0\nA 0 5 0 1 67\n\
+            F 000000430000003D83831080080010800800000000010000000704FFFFFFFF0000000000000000000\
+            0FFFFC000020100000000090100000000000000000002832FA1B2\n\
             Q 0 0\nq 0 0 0 0 0 8\n";
         assert_eq!(after_settings(script), expected);
         assert_eq!(
@@ -423,11 +429,21 @@ mod tests {
         assert_eq!(after_settings("T 0\nM 128\n"), "A 0 6 255 0 0\nE 3\n");
         assert_eq!(after_settings("T 99999999\nM 128\n"), "A 4 0 0 0 0\nE 3\n");
         assert_eq!(
-            after_settings("W 49\nO 0 0\nC 0 0 0\n"),
-            "A 0 1 0 0 0\nA 17 0 0 0 50\n"
+            after_settings("W 60\nO 0 0\nC 0 0 0\n"),
+            "A 0 1 0 0 0\nA 17 0 0 0 61\n"
         );
-        let again = format!("W 49\n{SETTINGS}\nO 0 0\nC 0 0 0\n");
-        assert!(after_settings(&again).contains("A 0 5 0 1 50\nF 00000032"));
+        let again = format!("W 60\n{SETTINGS}\nO 0 0\nC 0 0 0\n");
+        assert!(after_settings(&again).contains("A 0 5 0 1 61\nF 0000003D"));
+    }
+
+    #[test]
+    fn the_state_has_both_counts() {
+        let lost = "R 0 1 - 0 0 0 0 0 -\n";
+        let unrouted = "R 0 2 - 0 0 0 0 0 -\n".repeat(130);
+        let printed = after_settings(&format!("{lost}{unrouted}Q\nO 0 0\nC 0 0 0\nQ\n"));
+        assert!(printed.contains("\nQ 0 130\nq 0 0 0 1 130 7\n"));
+        assert!(printed.contains("0100000009010000000100000082\n"));
+        assert!(printed.ends_with("\nQ 0 130\nq 0 0 0 0 0 8\n"));
     }
 
     #[test]

@@ -1,10 +1,11 @@
 //! A plain manager of CDR files: settings, routing, the four events, the store and the closed
-//! files. Written in safe Rust from document 01, and from nothing of the proved code.
+//! files. Written in safe Rust from documents 01 and 02, and from nothing of the proved code.
 
 #![forbid(unsafe_code)]
 
 mod by_value;
 
+use crate::counts::{self, LossCounts};
 use crate::second::{self, EXTENDED, FIXED, LAST_MINUTE, LONGEST_FILE, RESERVED, WIDEST_OFFSET};
 
 /// The most routes that settings may have.
@@ -74,9 +75,9 @@ pub struct RouteState {
     pub is_open: bool,
     /// The records of the open file, 0 with none open.
     pub count: u32,
-    /// Known losses and the note since its last file closed.
+    /// Known losses and unrouted records since its last file closed.
     pub losses: u32,
-    pub note: bool,
+    pub unrouted: u32,
     /// The sequence number of the file that it opens next.
     pub next: u32,
     /// Octets that the open file is short of the size limit; without one, those of an empty file.
@@ -119,8 +120,9 @@ struct Route {
     /// Where its region of the store begins.
     region: usize,
     next: u32,
+    /// Known losses and unrouted records since its last file closed.
     losses: u32,
-    note: bool,
+    unrouted: u32,
     file: Option<OpenFile>,
 }
 
@@ -379,11 +381,15 @@ impl Manager {
             .map(|(index, _)| index)
     }
 
-    /// Counts an unrouted record: every route might have been its.
+    /// Counts an unrouted record on every route, since each might have been its.
     fn miss(&mut self, now: u32) -> Answer {
-        self.unrouted = self.unrouted.checked_add(1).ok_or((19, 0))?;
+        let mut counters = self.routes.iter().map(|route| route.unrouted);
+        if self.unrouted == u32::MAX || counters.any(|counter| counter == u32::MAX) {
+            return Err((19, 0));
+        }
+        self.unrouted += 1;
         for route in &mut self.routes {
-            route.note = true;
+            route.unrouted += 1;
         }
         self.last = now;
         Ok(accepted(Outcome::Unrouted, usize::from(NO_ROUTE), None))
@@ -466,7 +472,7 @@ impl Route {
             region,
             next: word(36),
             losses: 0,
-            note: false,
+            unrouted: 0,
             file: None,
         })
     }
@@ -501,10 +507,11 @@ impl Route {
         &self.filter[..self.filter_octets]
     }
 
-    /// The octets of a file of this route: its header has one for each release 7.
+    /// The octets of a file of this route: its header has the loss counts, and one octet for each
+    /// release 7.
     fn octets_of(&self, high: Rank, low: Rank, records: usize) -> usize {
         let extensions = usize::from(high.is_extended()) + usize::from(low.is_extended());
-        FIXED + self.filter_octets + extensions + records
+        FIXED + self.filter_octets + counts::ADDED + extensions + records
     }
 
     /// The open file's octets.
@@ -592,7 +599,7 @@ impl Route {
         (octets > self.limit).then_some(TOO_LONG)
     }
 
-    /// Lays the open file out at the output's start and starts the losses anew; its octets.
+    /// Lays the open file out at the output's start and starts both counts anew; its octets.
     fn close(
         &mut self,
         node: &Node,
@@ -608,7 +615,7 @@ impl Route {
         records.copy_from_slice(&store[self.region..][..file.octets]);
         self.file = None;
         self.losses = 0;
-        self.note = false;
+        self.unrouted = 0;
         Ok(octets)
     }
 
@@ -632,13 +639,22 @@ impl Route {
         fixed[22..26].copy_from_slice(&file.sequence.to_be_bytes());
         fixed[26] = reason;
         fixed[27..47].copy_from_slice(&node.address);
-        fixed[47] = indicator(self.losses, self.note);
+        fixed[47] = indicator(self.losses, self.unrouted);
         fixed[48..50].copy_from_slice(&(self.filter_octets as u16).to_be_bytes());
-        let (filter, extensions) = behind.split_at_mut(self.filter_octets);
+        let (filter, behind) = behind.split_at_mut(self.filter_octets);
         filter.copy_from_slice(self.filter());
+        let (private, extensions) = behind.split_at_mut(counts::ADDED);
+        private.copy_from_slice(&self.loss_counts().extension());
         // None, one or two octets: low has one only if high has.
         let of_each = [file.high, file.low].map(Rank::extension);
         extensions.copy_from_slice(&of_each[..extensions.len()]);
+    }
+
+    fn loss_counts(&self) -> LossCounts {
+        LossCounts {
+            losses: self.losses,
+            unrouted: self.unrouted,
+        }
     }
 
     fn state(&self) -> RouteState {
@@ -648,7 +664,7 @@ impl Route {
             is_open: self.file.is_some(),
             count: self.file.map_or(0, |file| file.count),
             losses: self.losses,
-            note: self.note,
+            unrouted: self.unrouted,
             next: self.next,
             spare: self.limit - octets,
         }
@@ -675,14 +691,14 @@ impl OpenFile {
     }
 }
 
-/// The lost indicator of a file with these known losses and this note.
-pub fn indicator(losses: u32, note: bool) -> u8 {
+/// The lost indicator of a file with these known losses and unrouted records.
+pub fn indicator(losses: u32, unrouted: u32) -> u8 {
     let known = losses.min(127) as u8;
-    match (note, known) {
-        (false, 0) => 0,
-        (false, known) => 128 + known,
-        (true, 0) => 128,
-        (true, known) => known,
+    match (unrouted, known) {
+        (0, 0) => 0,
+        (0, known) => 128 + known,
+        (_, 0) => 128,
+        (_, known) => known,
     }
 }
 
@@ -808,6 +824,21 @@ mod tests {
             self.files(octets).pop().unwrap()
         }
 
+        /// The losses and the unrouted records that the one closed file tells.
+        fn told(&self, octets: usize) -> [u32; 2] {
+            let private = self.file(octets).private;
+            let told = LossCounts::read(&self.output[private]).unwrap();
+            [told.losses, told.unrouted]
+        }
+
+        /// The losses and the unrouted records that the route's next file will tell.
+        fn pending(&self, route: usize) -> [u32; 2] {
+            let RouteState {
+                losses, unrouted, ..
+            } = self.state(route);
+            [losses, unrouted]
+        }
+
         /// Does all to a copy, which must come out refused and otherwise unchanged.
         fn refuses(&self, event: impl Fn(&mut Self) -> [usize; 4]) -> [usize; 2] {
             let mut copy = self.clone();
@@ -856,26 +887,28 @@ mod tests {
     #[test]
     fn the_edge_tables_indicators() {
         for (losses, octet) in [(0, 0), (1, 129), (126, 254), (127, 255), (40_000, 255)] {
-            assert_eq!(indicator(losses, false), octet);
+            assert_eq!(indicator(losses, 0), octet);
         }
         for (losses, octet) in [(0, 128), (3, 3), (127, 127), (128, 127), (u32::MAX, 127)] {
-            assert_eq!(indicator(losses, true), octet);
+            for unrouted in [1, 128, 256, u32::MAX] {
+                assert_eq!(indicator(losses, unrouted), octet);
+            }
         }
-        assert_eq!(indicator(200, false), 255);
+        assert_eq!(indicator(200, 0), 255);
     }
 
     #[test]
     fn the_edge_tables_limit_rows() {
         let fresh = Desk::new(&[plain()]);
-        for (release, fits) in [(4, 74), (7, 71)] {
+        for (release, fits) in [(4, 63), (7, 60)] {
             assert_eq!(fresh.clone().place(release, 1, fits), PLACED);
             assert_eq!(fresh.clone().place(release, 1, fits + 1), LOST);
         }
         let mut holding = fresh;
         assert_eq!(holding.place(4, 1, 20), PLACED);
-        assert_eq!(holding.clone().place(7, 1, 48), PLACED);
-        assert_eq!(holding.place(7, 1, 49), [2, 0, 1, 74]);
-        assert_eq!(holding.file(74).header.reason, 1);
+        assert_eq!(holding.clone().place(7, 1, 37), PLACED);
+        assert_eq!(holding.place(7, 1, 38), [2, 0, 1, 85]);
+        assert_eq!(holding.file(85).header.reason, 1);
     }
 
     #[test]
@@ -890,15 +923,16 @@ mod tests {
             ..Arrival::default()
         };
         assert_eq!(desk.receive(0, &arrival), PLACED);
-        assert_eq!(desk.close(0, 0, 4), [5, 0, 1, 56]);
+        assert_eq!(desk.close(0, 0, 4), [5, 0, 1, 67]);
         let expected = [
-            0, 0, 0, 0x38, 0, 0, 0, 0x32, 0x83, 0x83, 0x10, 0x80, 0x08, 0, 0x10, 0x80, 0x08, 0, 0,
+            0, 0, 0, 0x43, 0, 0, 0, 0x3D, 0x83, 0x83, 0x10, 0x80, 0x08, 0, 0x10, 0x80, 0x08, 0, 0,
             0, 0, 1, 0, 0, 0, 7, 4, 0xFF, 0xFF, 0xFF, 0xFF, 0, 0, 0, 0, 0, 0, 0, 0, 0, 0, 0xFF,
-            0xFF, 0xC0, 0, 2, 1, 0, 0, 0, 0, 2, 0x83, 0x2F, 0xA1, 0xB2,
+            0xFF, 0xC0, 0, 2, 1, 0, 0, 0, 0, 9, 1, 0, 0, 0, 0, 0, 0, 0, 0, 0, 2, 0x83, 0x2F, 0xA1,
+            0xB2,
         ];
-        assert_eq!(desk.output[..56], expected);
-        assert!(desk.output[56..].iter().all(|&octet| octet == 0xA5));
-        assert_eq!(desk.store[..6], expected[50..]);
+        assert_eq!(desk.output[..67], expected);
+        assert!(desk.output[67..].iter().all(|&octet| octet == 0xA5));
+        assert_eq!(desk.store[..6], expected[61..]);
         assert!(desk.store[6..].iter().all(|&octet| octet == 0xA5));
     }
 
@@ -960,10 +994,10 @@ mod tests {
         }]);
         let mut empty = desk.clone();
         assert_eq!(empty.open(0, 0), [1, 0, 0, 0]);
-        assert_eq!(empty.close(0, 0, 0), [5, 0, 1, 52]);
-        assert_eq!(empty.file(52).header.low.extension, 9);
+        assert_eq!(empty.close(0, 0, 0), [5, 0, 1, 63]);
+        assert_eq!(empty.file(63).header.low.extension, 9);
         assert_eq!(desk.open(0, 0), [1, 0, 0, 0]);
-        assert_eq!(desk.place(4, 1, 74), PLACED);
+        assert_eq!(desk.place(4, 1, 63), PLACED);
         assert_eq!(desk.close(0, 0, 0), [5, 0, 1, 128]);
         assert_eq!(desk.file(128).header.high.release, 4);
     }
@@ -975,16 +1009,29 @@ mod tests {
         assert_eq!(desk.receive(5, &MARK_1), LOST);
         assert!(!desk.state(0).is_open, "a loss opens nothing");
         assert_eq!(desk.open(0, 0), [1, 0, 0, 0]);
-        assert_eq!(desk.place(4, 1, 75), LOST);
-        assert_eq!(desk.state(0).losses, 3);
+        assert_eq!(desk.place(4, 1, 64), LOST);
         assert_eq!(desk.receive(5, &MARK_2), UNROUTED);
-        assert_eq!(desk.close(0, 0, 131), [5, 0, 1, 50]);
-        assert_eq!(desk.file(50).header.lost, 3);
-        assert_eq!((desk.state(0).losses, desk.state(0).note), (0, false));
+        assert_eq!(desk.pending(0), [3, 1]);
+        assert_eq!(desk.close(0, 0, 131), [5, 0, 1, 61]);
+        assert_eq!((desk.file(61).header.lost, desk.told(61)), (3, [3, 1]));
+        assert_eq!(desk.pending(0), [0, 0]);
         assert_eq!(desk.manager.unrouted(), 1);
         desk.open(0, 0);
         desk.close(0, 0, 0);
-        assert_eq!(desk.file(50).header.lost, 0);
+        assert_eq!((desk.file(61).header.lost, desk.told(61)), (0, [0, 0]));
+    }
+
+    #[test]
+    fn a_file_tells_its_losses_in_full() {
+        let mut desk = Desk::new(&[plain()]);
+        (0..200).for_each(|_| assert_eq!(desk.receive(0, &MARK_1), LOST));
+        let mut other = desk.clone();
+        (0..300).for_each(|_| assert_eq!(other.receive(0, &MARK_2), UNROUTED));
+        for (desk, lost, told) in [(&mut desk, 255, [200, 0]), (&mut other, 127, [200, 300])] {
+            assert_eq!(desk.place(4, 1, 0), PLACED);
+            assert_eq!(desk.close(0, 0, 4), [5, 0, 1, 65]);
+            assert_eq!((desk.file(65).header.lost, desk.told(65)), (lost, told));
+        }
     }
 
     #[test]
@@ -996,8 +1043,8 @@ mod tests {
         assert_eq!(desk.tick(20), [6, 255, 0, 0]);
         assert_eq!(desk.manager.last(), 109);
         assert_eq!(desk.place(4, 1, 0), PLACED);
-        assert_eq!(desk.tick(110), [6, 255, 1, 54]);
-        let header = desk.file(54).header;
+        assert_eq!(desk.tick(110), [6, 255, 1, 65]);
+        let header = desk.file(65).header;
         assert_eq!((header.opened.hour, header.opened.minute), (1, 40));
         assert_eq!((header.appended.hour, header.appended.minute), (1, 49));
         assert_eq!(header.reason, 2);
@@ -1017,12 +1064,11 @@ mod tests {
     #[test]
     fn a_tick_closes_up_to_eight_files_in_route_order() {
         let mut desk = eight();
-        let filters: usize = EIGHT.iter().map(|filter| filter.len()).sum();
+        let octets: usize = EIGHT.iter().map(|filter| 61 + filter.len()).sum();
         (0..8).for_each(|route| assert_eq!(desk.open(0, route)[0], 1));
-        desk.output.truncate(8 * FIXED + filters - 1);
-        assert_eq!(desk.refuses(|desk| desk.tick(1)), [17, 8 * FIXED + filters]);
+        desk.output.truncate(octets - 1);
+        assert_eq!(desk.refuses(|desk| desk.tick(1)), [17, octets]);
         desk.output.push(0);
-        let octets = desk.output.len();
         assert_eq!(desk.tick(1), [6, 255, 8, octets]);
         let lengths = desk.files(octets).into_iter().map(|file| file.filter.len());
         assert!(lengths.eq(EIGHT.map(|filter| filter.len())));
@@ -1042,37 +1088,47 @@ mod tests {
         assert_eq!(route(&mut desk, &[9]), 0);
     }
 
+    /// A manager of so many routes, whose filters are 1, 2 and so on.
+    fn filtered(routes: u8) -> Desk {
+        let route = |first| settings::Route {
+            filter: vec![first],
+            ..plain()
+        };
+        let routes: Vec<_> = (1..=routes).map(route).collect();
+        Desk::new(&routes)
+    }
+
     #[test]
-    fn an_unrouted_record_notes_all_routes() {
-        let mut desk = Desk::new(&[
-            settings::Route {
-                filter: vec![1],
-                ..plain()
-            },
-            settings::Route {
-                filter: vec![2],
-                ..plain()
-            },
-        ]);
+    fn every_route_counts_unrouted_records_since_its_own_last_closing() {
+        let mut desk = filtered(2);
         desk.open(0, 1);
         // Mark 1 and a good key that no filter fits.
         assert_eq!(desk.receive(9, &MARK_1), UNROUTED);
-        assert!(desk.state(0).note && desk.state(1).note);
-        assert_eq!((desk.manager.unrouted(), desk.manager.last()), (1, 9));
-        assert_eq!(desk.close(0, 1, 0)[0], 5);
-        assert_eq!(desk.file(51).header.lost, 128);
-        assert!(desk.state(0).note && !desk.state(1).note);
+        assert_eq!(desk.receive(9, &MARK_2), UNROUTED);
+        assert_eq!([desk.pending(0), desk.pending(1)], [[0, 2], [0, 2]]);
+        assert_eq!((desk.manager.unrouted(), desk.manager.last()), (2, 9));
+        assert_eq!(desk.close(0, 1, 0), [5, 1, 1, 62]);
+        assert_eq!((desk.file(62).header.lost, desk.told(62)), (128, [0, 2]));
+        assert_eq!([desk.pending(0), desk.pending(1)], [[0, 2], [0, 0]]);
+        assert_eq!(desk.receive(9, &MARK_2), UNROUTED);
+        // An opening clears nothing.
+        desk.open(0, 0);
+        assert_eq!([desk.pending(0), desk.pending(1)], [[0, 3], [0, 1]]);
+        assert_eq!(desk.close(0, 0, 0), [5, 0, 1, 62]);
+        assert_eq!(desk.told(62), [0, 3]);
+        assert_eq!([desk.pending(0), desk.pending(1)], [[0, 0], [0, 1]]);
+        assert_eq!(desk.manager.unrouted(), 3);
     }
 
     #[test]
     fn format_and_flag_close_with_5_and_before_1() {
         let mut desk = Desk::new(&[plain()]);
-        desk.place(4, 1, 30);
-        assert_eq!(desk.clone().place(5, 1, 30), PLACED, "the flag is 0");
-        assert_eq!(desk.place(4, 2, 74), [2, 0, 1, 84]);
-        assert_eq!(desk.file(84).header.reason, 5);
+        desk.place(4, 1, 20);
+        assert_eq!(desk.clone().place(5, 1, 20), PLACED, "the flag is 0");
+        assert_eq!(desk.place(4, 2, 63), [2, 0, 1, 85]);
+        assert_eq!(desk.file(85).header.reason, 5);
         assert_eq!(desk.state(0).count, 1);
-        assert_eq!(desk.store[..4], [0, 74, 0x80, 0x40]);
+        assert_eq!(desk.store[..4], [0, 63, 0x80, 0x40]);
         let mut flagged = Desk::new(&[settings::Route {
             flag: 1,
             release: release(7, 9),
@@ -1085,8 +1141,8 @@ mod tests {
             "an empty file has no release"
         );
         assert_eq!(flagged.place(4, 1, 1), PLACED);
-        assert_eq!(flagged.place(7, 1, 1), [2, 0, 1, 60]);
-        assert_eq!(flagged.file(60).header.reason, 5);
+        assert_eq!(flagged.place(7, 1, 1), [2, 0, 1, 71]);
+        assert_eq!(flagged.file(71).header.reason, 5);
     }
 
     #[test]
@@ -1099,17 +1155,17 @@ mod tests {
         let mut desk = Desk::new(&[full]);
         assert_eq!(desk.place(4, 1, 3), PLACED);
         assert_eq!(desk.state(0).next, 0);
-        desk.output.truncate(63);
-        assert_eq!(desk.refuses(|desk| desk.place(4, 1, 3)), [17, 64]);
+        desk.output.truncate(74);
+        assert_eq!(desk.refuses(|desk| desk.place(4, 1, 3)), [17, 75]);
         desk.output.push(0);
-        assert_eq!(desk.place(4, 1, 3), [2, 0, 1, 64]);
-        let header = desk.file(64).header;
+        assert_eq!(desk.place(4, 1, 3), [2, 0, 1, 75]);
+        let header = desk.file(75).header;
         assert_eq!((header.reason, header.sequence), (3, u32::MAX));
         desk.open(0, 0);
         desk.close(0, 0, 4);
-        assert_eq!(desk.file(50).header.sequence, 0);
+        assert_eq!(desk.file(61).header.sequence, 0);
         let mut single = Desk::new(&[settings::Route { most: 1, ..plain() }]);
-        assert_eq!(single.place(4, 1, 3), [2, 0, 1, 57]);
+        assert_eq!(single.place(4, 1, 3), [2, 0, 1, 68]);
         assert!(!single.state(0).is_open);
     }
 
@@ -1151,12 +1207,12 @@ mod tests {
         assert_eq!(desk.refuses(|desk| desk.close(0, 0, 0)), [15, 0]);
         desk.open(0, 0);
         assert_eq!(desk.refuses(|desk| desk.open(0, 0)), [14, 0]);
-        desk.output.truncate(49);
-        assert_eq!(desk.refuses(|desk| desk.close(0, 0, 0)), [17, 50]);
-        desk.place(4, 1, 74);
+        desk.output.truncate(60);
+        assert_eq!(desk.refuses(|desk| desk.close(0, 0, 0)), [17, 61]);
+        desk.place(4, 1, 63);
         assert_eq!(desk.refuses(|desk| desk.place(4, 1, 0)), [17, 128]);
         assert_eq!(desk.refuses(|desk| desk.place(4, 2, 0)), [17, 128]);
-        assert_eq!(desk.place(4, 2, 75), LOST, "a loss needs no output");
+        assert_eq!(desk.place(4, 2, 64), LOST, "a loss needs no output");
     }
 
     #[test]
@@ -1226,8 +1282,46 @@ mod tests {
         desk.manager.routes[0].losses = u32::MAX;
         assert_eq!(desk.refuses(|desk| desk.receive(9, &MARK_1)), [19, 0]);
         assert_eq!(desk.refuses(|desk| desk.receive(9, &MARK_2)), [19, 0]);
-        assert_eq!(desk.refuses(|desk| desk.place(4, 1, 75)), [19, 0]);
-        assert_eq!(desk.place(4, 1, 74), PLACED);
+        assert_eq!(desk.refuses(|desk| desk.place(4, 1, 64)), [19, 0]);
+        assert_eq!(desk.place(4, 1, 63), PLACED);
+    }
+
+    #[test]
+    fn a_full_counter_of_any_route_refuses_unrouted_records() {
+        let mut below = filtered(3);
+        below.manager.unrouted = u32::MAX - 1;
+        for route in &mut below.manager.routes {
+            route.unrouted = u32::MAX - 1;
+        }
+        let full: [fn(&mut Manager); 4] = [
+            |m| m.unrouted = u32::MAX,
+            |m| m.routes[0].unrouted = u32::MAX,
+            |m| m.routes[1].unrouted = u32::MAX,
+            |m| m.routes[2].unrouted = u32::MAX,
+        ];
+        for put in full {
+            let mut desk = below.clone();
+            put(&mut desk.manager);
+            for arrival in [MARK_1, MARK_2, Arrival::default()] {
+                assert_eq!(desk.refuses(|desk| desk.receive(9, &arrival)), [19, 0]);
+            }
+            let routed = Arrival {
+                key: &[1],
+                ..MARK_1
+            };
+            assert_eq!(
+                desk.receive(9, &routed),
+                LOST,
+                "the known losses are not full"
+            );
+        }
+        let mut desk = below;
+        assert_eq!(desk.receive(9, &MARK_2), UNROUTED);
+        assert_eq!(desk.refuses(|desk| desk.receive(9, &MARK_2)), [19, 0]);
+        desk.open(9, 1);
+        desk.close(9, 1, 0);
+        assert_eq!(desk.told(62), [0, u32::MAX]);
+        assert_eq!(desk.refuses(|desk| desk.receive(9, &MARK_2)), [19, 0]);
     }
 
     #[test]

@@ -1,5 +1,6 @@
 //! The proved library (`libexports.a`): its declarations, and a safe function for each.
 
+use crate::counts::LossCounts;
 use crate::fields::{Header, RecordHeader};
 use crate::manager::Arrival;
 use crate::name;
@@ -111,6 +112,28 @@ pub struct NameRead {
     pub fields: NameFields,
 }
 
+/// The answer to private octets: all zeros where they are not a file's loss counts.
+#[repr(C)]
+#[derive(Clone, Copy, Debug, Default, PartialEq, Eq)]
+pub struct Counts {
+    /// 1 if they are; the library's bool as an octet, so that any other value is told as a
+    /// difference.
+    pub there: u8,
+    pub losses: u32,
+    pub unrouted: u32,
+}
+
+impl From<Option<LossCounts>> for Counts {
+    fn from(counts: Option<LossCounts>) -> Self {
+        let LossCounts { losses, unrouted } = counts.unwrap_or_default();
+        Self {
+            there: counts.is_some().into(),
+            losses,
+            unrouted,
+        }
+    }
+}
+
 /// The answer to settings.
 #[repr(C)]
 #[derive(Clone, Copy, Debug, PartialEq, Eq)]
@@ -160,6 +183,7 @@ extern "C" {
     fn cdr_step_at(file: *const u8, file_octets: usize, at: usize) -> Step;
     fn cdr_body_at(file: *const u8, file_octets: usize, at: usize) -> Part;
     fn cdr_part_of(file: *const u8, file_octets: usize, part: Part) -> Part;
+    fn cdr_counts(private: *const u8, private_octets: usize) -> Counts;
     fn cdr_write(
         header: Header,
         filter: *const u8,
@@ -261,6 +285,12 @@ pub fn body_at(file: &[u8], at: usize) -> Part {
 pub fn part_of(file: &[u8], part: Part) -> Part {
     // SAFETY: as in `read`; any part is allowed.
     unsafe { cdr_part_of(file.as_ptr(), file.len(), part) }
+}
+
+/// The loss counts in private octets.
+pub fn counts(private: &[u8]) -> Counts {
+    // SAFETY: as in `read`.
+    unsafe { cdr_counts(private.as_ptr(), private.len()) }
 }
 
 /// Writes a file of these fields, octets and records.

@@ -3,6 +3,7 @@
 
 #![forbid(unsafe_code)]
 
+use crate::counts;
 use crate::draft::release;
 use crate::fields::Release;
 use crate::gate::{Gate, LONGEST_LINE, MOST_OCTETS};
@@ -28,7 +29,8 @@ struct Maker<'a> {
     is_narrow: bool,
 }
 
-/// A script of 20 to 200 lines; each begins with settings, and none ends the run.
+/// A script of 20 to 200 lines, and more where many records are lost; each begins with settings, and
+/// none ends the run.
 pub fn right(random: &mut Random) -> Vec<u8> {
     let lines = random.between(20, 200);
     let mut maker = Maker::new(random);
@@ -116,7 +118,11 @@ impl<'a> Maker<'a> {
             true => self.random.between(1, lines.max(1)),
             false => self.random.between(1, 6),
         };
-        for _ in 0..events {
+        let worst = self.random.below(60 * events);
+        for index in 0..events {
+            if index == worst {
+                self.lose_many();
+            }
             self.line();
         }
         // Otherwise files stay open and the output narrow at the next settings.
@@ -235,7 +241,7 @@ impl<'a> Maker<'a> {
         });
         let files: Vec<usize> = files.collect();
         let octets = match self.random.below(8) {
-            0 => self.random.pick(&[0, 49, 50, 127, 128]),
+            0 => self.random.pick(&[0, 60, 61, 127, 128]),
             1 => files.iter().sum(),
             2 => files.iter().sum::<usize>().saturating_sub(1),
             3 => self.random.pick(&files),
@@ -261,6 +267,19 @@ impl<'a> Maker<'a> {
         let octets = self.body_octets(route);
         let body = self.body(octets);
         self.add(format_args!("R {time} {mark} {key} {fields} {body}"));
+    }
+
+    /// So many losses on a route, or unrouted records, that the indicator does not tell their number;
+    /// and a file there, in which they may be told.
+    fn lose_many(&mut self) {
+        let (clock, route) = (self.clock, self.random.below(self.routes.len()));
+        let key = self.routes[route].filter.clone();
+        let key = self.word(&key);
+        let mark = self.random.pick(&[1, 1, 2]);
+        for _ in 0..self.random.between(128, 300) {
+            self.add(format_args!("R {clock} {mark} {key} 0 0 0 0 0 -"));
+        }
+        self.add(format_args!("O {clock} {route}"));
     }
 
     /// A key that fits a route's filter, or any, or one too long.
@@ -310,7 +329,7 @@ impl<'a> Maker<'a> {
     /// Small, or near what the limit leaves to a record alone or to one more, or near 65,535.
     fn body_octets(&mut self, route: usize) -> usize {
         let Route { filter, limit, .. } = &self.routes[route];
-        let alone = *limit as usize - FIXED - filter.len();
+        let alone = *limit as usize - FIXED - filter.len() - counts::ADDED;
         let spare = self.state(route).map_or(alone, |state| state.spare);
         let near = |random: &mut Random, octets: usize| {
             let least = octets.saturating_sub(8);
@@ -427,7 +446,7 @@ fn routes(random: &mut Random) -> Vec<Route> {
 /// Often small, at times such that the longest bodies are at the limit.
 fn limit(random: &mut Random, size: usize) -> usize {
     match size {
-        0 => random.between(65_534 + FIXED, 65_640),
+        0 => random.between(65_534 + FIXED + counts::ADDED, 65_651),
         1 => random.between(65_000, 300_000),
         2..=6 => random.between(128, 5_000),
         7..=9 => 128,

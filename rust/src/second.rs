@@ -424,6 +424,10 @@ mod tests {
     const EXAMPLE: &str = "00000038 00000032 83 83 10800800 10800800 00000001 00000007 04 FFFFFFFF
         00000000000000000000FFFFC0000201 00 0000 0002 83 2F A1B2";
 
+    /// The same file as the manager closes it: behind the filter there are its loss counts.
+    const CLOSED: &str = "00000043 0000003D 83 83 10800800 10800800 00000001 00000007 04 FFFFFFFF
+        00000000000000000000FFFFC0000201 00 0000 0009 01 00000000 00000000 0002 83 2F A1B2";
+
     fn octets(hexadecimal: &str) -> Vec<u8> {
         let digits: Vec<u32> = hexadecimal.chars().filter_map(|c| c.to_digit(16)).collect();
         digits
@@ -509,6 +513,21 @@ mod tests {
         let short = &mut [0xA5; 55];
         assert_eq!(write(&header, &[], &[], &file[50..], short), Err((17, 56)));
         assert_eq!(short, &[0xA5; 55]);
+    }
+
+    #[test]
+    fn the_managers_file_is_read_and_written() {
+        let file = octets(CLOSED);
+        let contents = read(&file).unwrap();
+        assert_eq!(contents.header, example_header());
+        assert_eq!((contents.filter, contents.private), (50..50, 52..61));
+        assert_eq!((contents.records, contents.count), (61..67, 1));
+        let header = contents.header;
+        let mut output = [0xA5; 70];
+        let written = write(&header, &[], &file[52..61], &file[61..], &mut output);
+        assert_eq!(written, Ok(67));
+        assert_eq!(output[..67], file);
+        assert_eq!(output[67..], [0xA5; 3]);
     }
 
     #[test]

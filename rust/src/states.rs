@@ -4,6 +4,7 @@
 
 #![forbid(unsafe_code)]
 
+use crate::counts;
 use crate::fields::Release;
 use crate::manager::{self, LONGEST_FILTER, MOST_ROUTES};
 use crate::second::{EXTENDED, FIXED};
@@ -25,7 +26,7 @@ pub struct RouteSettings {
     pub release: Release,
 }
 
-/// A minute of 31 bits: the other bit of its word says something else.
+/// A minute of 31 bits: the other bit of its word says whether there is an open file.
 #[derive(Clone, Copy, Debug, Default, PartialEq, Eq, PartialOrd, Ord)]
 pub struct Minute(u32);
 
@@ -47,7 +48,7 @@ impl Minute {
 pub struct OpenFile {
     pub sequence: u32,
     pub opened: Minute,
-    pub appended: Minute,
+    pub appended: u32,
     pub high: Release,
     pub low: Release,
     pub format: u8,
@@ -61,9 +62,9 @@ pub struct Route {
     pub settings: RouteSettings,
     /// The sequence number of the file that it opens next.
     pub next: u32,
-    /// Known losses and the note since its last file closed.
+    /// Known losses and unrouted records since its last file closed.
     pub losses: u32,
-    pub note: bool,
+    pub unrouted: u32,
     pub open: bool,
     /// The open file; with none open it says nothing.
     pub file: OpenFile,
@@ -79,6 +80,7 @@ pub struct State {
     pub bias: u32,
     /// The effective time of the last accepted event.
     pub last: u32,
+    /// Unrouted records since fresh.
     pub unrouted: u32,
 }
 
@@ -113,10 +115,11 @@ impl From<manager::Answer> for Answer {
 }
 
 impl RouteSettings {
-    /// Octets of a file header of this route with these releases.
+    /// Octets of a file header of this route with these releases, the loss counts included.
     pub fn header_octets(&self, high: Release, low: Release) -> u32 {
         let extension = |of: Release| u32::from(of.release == EXTENDED);
-        FIXED as u32 + u32::from(self.octets) + extension(high) + extension(low)
+        let fixed = (FIXED + counts::ADDED) as u32;
+        fixed + u32::from(self.octets) + extension(high) + extension(low)
     }
 }
 

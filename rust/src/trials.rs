@@ -6,10 +6,11 @@
 use crate::bounds;
 use crate::draft::release;
 use crate::fields::Release;
+use crate::forge::NEW;
 use crate::manager::{Arrival, Manager, LONGEST_FILTER};
 use crate::random::Random;
 use crate::second::{self, LAST_MINUTE, RESERVED};
-use crate::states::{Answer, Route, State};
+use crate::states::{Answer, Route, RouteSettings, State};
 
 /// Stores beyond this are slow to make, so that most are made too short.
 const LONG_STORE: u64 = 65_536;
@@ -104,6 +105,20 @@ impl Trial {
             trial.output = background(random, octets);
             trial
         })
+    }
+
+    /// RECEIVE of this record on a state within its bounds; time and store are right, so that only the
+    /// record and the state decide.
+    pub fn receiving(random: &mut Random, state: &State, received: Received) -> Self {
+        let later = state.last.saturating_add(random.below(20) as u32);
+        let octets = random.below(200);
+        Self {
+            words: state.words().to_vec(),
+            store: background(random, state.regions() as usize),
+            output: background(random, octets),
+            time: later.min(LAST_MINUTE),
+            event: Event::Receive(received),
+        }
     }
 
     /// The state that it is lent, unless its words have another number.
@@ -286,6 +301,58 @@ fn received(random: &mut Random, state: &State) -> Received {
     received
 }
 
+/// A record that no route of a state of `forge::right` takes: nothing of it is to be trusted, or its
+/// key is good and no filter fits.
+pub fn unrouted(random: &mut Random, state: &State) -> Received {
+    let takes_all = |route: &Route| route.settings.octets == 0;
+    if state.configured().iter().any(takes_all) || random.once_in(2) {
+        return Received {
+            mark: 2,
+            ..received(random, state)
+        };
+    }
+    Received {
+        mark: random.pick(&[0, 1]),
+        key: vec![NEW; random.below(LONGEST_FILTER + 1)],
+        ..usable(random)
+    }
+}
+
+/// A record that this route loses: unusable, or too long for a file that holds it alone.
+pub fn lost(random: &mut Random, route: &Route) -> Received {
+    let RouteSettings {
+        filter,
+        octets,
+        limit,
+        ..
+    } = route.settings;
+    let mut record = usable(random);
+    if random.once_in(2) {
+        spoil(random, &mut record);
+        record.mark = 1;
+    } else {
+        record.body = background(random, limit as usize);
+    }
+    // No other filter that fits it is as long.
+    record.key = filter[..octets.into()].to_vec();
+    record
+}
+
+/// A usable record of any fields, without key and body.
+fn usable(random: &mut Random) -> Received {
+    let release = release(random, 2);
+    Received {
+        mark: 0,
+        release: release.release.into(),
+        version: release.version.into(),
+        extension: release.extension,
+        format: random.below(8) as u32,
+        ts: random.below(32) as u32,
+        key: Vec::new(),
+        body: Vec::new(),
+    }
+}
+
 /// Makes one field wrong, also such that it is right if its upper bits are lost.
 fn spoil(random: &mut Random, received: &mut Received) {
     match random.below(7) {
@@ -339,6 +406,7 @@ mod tests {
     use super::*;
     use crate::faults::FAULTS;
     use crate::forge;
+    use crate::full::FULL;
     use crate::words::WORDS;
 
     /// That 18 is expected and nothing else.
@@ -378,6 +446,24 @@ mod tests {
             for fewer in [WORDS - 1, 8, 1, 0] {
                 trial.words.truncate(fewer);
                 refuses(&trial, "too few");
+            }
+        }
+    }
+
+    #[test]
+    fn records_are_unrouted_or_lost_as_they_are_made() {
+        let random = &mut Random::new(10);
+        for full in &FULL {
+            let (state, at) = full.state(random);
+            let records = [
+                (unrouted(random, &state), full.refuses_unrouted, 4),
+                (lost(random, &state.routes[at]), full.refuses_lost, 3),
+            ];
+            for (record, is_refused, outcome) in records {
+                let trial = Trial::receiving(random, &state, record);
+                let answer = trial.expected().answer;
+                let planned = if is_refused { (19, 0) } else { (0, outcome) };
+                assert_eq!((answer.refusal, answer.outcome), planned, "{}", full.name);
             }
         }
     }

@@ -1,4 +1,4 @@
-//! A state as the words in which it is lent to the proved manager: the node's eight, then eighteen
+//! A state as the 160 words in which it is lent to the proved manager: the node's eight, then nineteen
 //! for each of eight routes, configured or not. No bit is without a meaning, so that any words are
 //! a state's and any state has its words.
 
@@ -11,7 +11,7 @@ use std::array;
 
 /// Words of the node, and of a route.
 const NODE: usize = 8;
-const ROUTE: usize = 18;
+const ROUTE: usize = 19;
 /// Words of a state.
 pub const WORDS: usize = NODE + MOST_ROUTES * ROUTE;
 
@@ -49,10 +49,9 @@ impl State {
 impl Route {
     fn from_words(words: &[u32]) -> Self {
         let (filter_octets, release) = apart(words[5]);
-        let (open, opened) = marked(words[12]);
-        let (note, appended) = marked(words[13]);
-        let (format, high) = apart(words[14]);
-        let (flag, low) = apart(words[15]);
+        let (open, opened) = marked(words[13]);
+        let (format, high) = apart(words[15]);
+        let (flag, low) = apart(words[16]);
         Self {
             settings: RouteSettings {
                 filter: octets(&words[..5]),
@@ -65,17 +64,17 @@ impl Route {
             },
             next: words[9],
             losses: words[10],
-            note,
+            unrouted: words[11],
             open,
             file: OpenFile {
-                sequence: words[11],
+                sequence: words[12],
                 opened,
-                appended,
+                appended: words[14],
                 high,
                 low,
                 format,
-                count: words[16],
-                octets: words[17],
+                count: words[17],
+                octets: words[18],
             },
         }
     }
@@ -95,9 +94,10 @@ impl Route {
             settings.most,
             self.next,
             self.losses,
+            self.unrouted,
             file.sequence,
             with_mark(self.open, file.opened),
-            with_mark(self.note, file.appended),
+            file.appended,
             joined(file.format, file.high),
             joined(settings.flag, file.low),
             file.count,
@@ -155,7 +155,7 @@ mod tests {
     use crate::random::Random;
 
     const ROUNDS: usize = 2_000;
-    /// The bit that a word has beside a minute.
+    /// The bit that the opening's word has beside a minute.
     const TOP: u32 = 1 << 31;
     const RELEASE: Release = Release {
         release: 1,
@@ -202,7 +202,7 @@ mod tests {
         }
     }
 
-    /// The words of zeros but for one field, of the node or of route 2, which begins at word 44.
+    /// The words of zeros but for one field, of the node or of route 2, which begins at word 46.
     fn with(put: fn(&mut State, &mut Route)) -> Vec<(usize, u32)> {
         let (mut state, mut route) = (State::default(), Route::default());
         put(&mut state, &mut route);
@@ -224,29 +224,34 @@ mod tests {
 
     #[test]
     fn each_field_of_a_route_has_its_place() {
-        assert_eq!(with(|_, r| r.settings.filter[0] = 9), [(44, 9 << 24)]);
-        assert_eq!(with(|_, r| r.settings.filter[18] = 9), [(48, 9 << 8)]);
-        assert_eq!(with(|_, r| r.settings.octets = 255), [(49, 255 << 24)]);
-        assert_eq!(with(|_, r| r.settings.release = RELEASE), [(49, 0x010203)]);
-        assert_eq!(with(|_, r| r.settings.limit = u32::MAX), [(50, u32::MAX)]);
-        assert_eq!(with(|_, r| r.settings.age = u32::MAX), [(51, u32::MAX)]);
-        assert_eq!(with(|_, r| r.settings.most = u32::MAX), [(52, u32::MAX)]);
-        assert_eq!(with(|_, r| r.next = u32::MAX), [(53, u32::MAX)]);
-        assert_eq!(with(|_, r| r.losses = u32::MAX), [(54, u32::MAX)]);
+        assert_eq!(with(|_, r| r.settings.filter[0] = 9), [(46, 9 << 24)]);
+        assert_eq!(with(|_, r| r.settings.filter[18] = 9), [(50, 9 << 8)]);
+        assert_eq!(with(|_, r| r.settings.octets = 255), [(51, 255 << 24)]);
+        assert_eq!(with(|_, r| r.settings.release = RELEASE), [(51, 0x010203)]);
+        assert_eq!(with(|_, r| r.settings.limit = u32::MAX), [(52, u32::MAX)]);
+        assert_eq!(with(|_, r| r.settings.age = u32::MAX), [(53, u32::MAX)]);
+        assert_eq!(with(|_, r| r.settings.most = u32::MAX), [(54, u32::MAX)]);
+        assert_eq!(with(|_, r| r.next = u32::MAX), [(55, u32::MAX)]);
+        assert_eq!(with(|_, r| r.losses = u32::MAX), [(56, u32::MAX)]);
+        assert_eq!(with(|_, r| r.unrouted = u32::MAX), [(57, u32::MAX)]);
     }
 
     #[test]
     fn each_field_of_a_file_has_its_place() {
-        assert_eq!(with(|_, r| r.file.sequence = u32::MAX), [(55, u32::MAX)]);
-        assert_eq!(with(|_, r| r.file.opened = Minute::MAX), [(56, TOP - 1)]);
-        assert_eq!(with(|_, r| r.open = true), [(56, TOP)]);
-        assert_eq!(with(|_, r| r.file.appended = Minute::MAX), [(57, TOP - 1)]);
-        assert_eq!(with(|_, r| r.note = true), [(57, TOP)]);
-        assert_eq!(with(|_, r| r.file.format = 255), [(58, 255 << 24)]);
-        assert_eq!(with(|_, r| r.file.high = RELEASE), [(58, 0x010203)]);
-        assert_eq!(with(|_, r| r.settings.flag = 255), [(59, 255 << 24)]);
-        assert_eq!(with(|_, r| r.file.low = RELEASE), [(59, 0x010203)]);
-        assert_eq!(with(|_, r| r.file.count = u32::MAX), [(60, u32::MAX)]);
-        assert_eq!(with(|_, r| r.file.octets = u32::MAX), [(61, u32::MAX)]);
+        assert_eq!(with(|_, r| r.file.sequence = u32::MAX), [(58, u32::MAX)]);
+        assert_eq!(with(|_, r| r.file.opened = Minute::MAX), [(59, TOP - 1)]);
+        assert_eq!(with(|_, r| r.open = true), [(59, TOP)]);
+        assert_eq!(with(|_, r| r.file.appended = u32::MAX), [(60, u32::MAX)]);
+        assert_eq!(with(|_, r| r.file.format = 255), [(61, 255 << 24)]);
+        assert_eq!(with(|_, r| r.file.high = RELEASE), [(61, 0x010203)]);
+        assert_eq!(with(|_, r| r.settings.flag = 255), [(62, 255 << 24)]);
+        assert_eq!(with(|_, r| r.file.low = RELEASE), [(62, 0x010203)]);
+        assert_eq!(with(|_, r| r.file.count = u32::MAX), [(63, u32::MAX)]);
+        assert_eq!(with(|_, r| r.file.octets = u32::MAX), [(64, u32::MAX)]);
+    }
+
+    #[test]
+    fn a_state_has_160_words() {
+        assert_eq!(WORDS, 160);
     }
 }

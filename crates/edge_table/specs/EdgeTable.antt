@@ -1,5 +1,5 @@
--- The starred rows of document 01's edge table, together, by evaluation against the definitions; then further cases of the
--- same definitions, some from the text of document 000. Every row is an equation between a definition at given arguments and
+-- The starred rows of document 01's edge table, together, by evaluation against the definitions, those that document 02's ask 3
+-- changes as it has them; then further cases of the same definitions, some from the text of document 000. Every row is an equation between a definition at given arguments and
 -- octets or numbers that the papers give, so that a definition that is wrong there is refused. Rows that are not starred are
 -- executed by this crate's program. Assumes nothing.
 use mathlib.Core.Path.{_≡_, refl}
@@ -19,6 +19,7 @@ use Rattle.record.specs.Step.{cut, stepOf, stepAt, refusedStep}
 use Rattle.record.specs.Walk.{walkOf, tallyOf}
 use Rattle.cdrfile.specs.declared.Header.{Header}
 use Rattle.cdrfile.specs.File.{File, fixedOctets, fileOctets, layout}
+use Rattle.counts.specs.Counts.{countOctets}
 use Rattle.reader.specs.declared.Part.{Part}
 use Rattle.reader.specs.Places.{headerAt}
 use Rattle.reader.specs.Reader.{wrongLength, wrongHeaderLength, verdict, refusedContents, readOf}
@@ -84,10 +85,14 @@ onlyRecord = record { header = record { release = release43; format = 1; ts = 15
 abbrev file : File
 file = record { header = header; filter = []; private = []; records = onlyRecord ∷ [] }
 
+-- with the loss counts of a time without losses, as the manager closes it
+abbrev countedFile : File
+countedFile = record { header = header; filter = []; private = countOctets 0 0; records = onlyRecord ∷ [] }
+
 abbrev recordPart : List ℕ
 recordPart = 0x00 ∷ 0x02 ∷ 0x83 ∷ 0x2F ∷ 0xA1 ∷ 0xB2 ∷ []
 
--- its octets, as the table has them
+-- its octets, as document 01 has them
 abbrev octets : List ℕ
 octets =
     0x00 ∷ 0x00 ∷ 0x00 ∷ 0x38
@@ -103,6 +108,26 @@ octets =
     ∷ 0x00 ∷ 0x00 ∷ 0xFF ∷ 0xFF ∷ 0xC0 ∷ 0x00 ∷ 0x02 ∷ 0x01
     ∷ 0x00
     ∷ 0x00 ∷ 0x00
+    ∷ 0x00 ∷ 0x02 ∷ 0x83 ∷ 0x2F
+    ∷ 0xA1 ∷ 0xB2 ∷ []
+
+-- and with the loss counts: 11 octets more, in the file's length, the header's, and before the record
+abbrev countedOctets : List ℕ
+countedOctets =
+    0x00 ∷ 0x00 ∷ 0x00 ∷ 0x43
+    ∷ 0x00 ∷ 0x00 ∷ 0x00 ∷ 0x3D
+    ∷ 0x83 ∷ 0x83
+    ∷ 0x10 ∷ 0x80 ∷ 0x08 ∷ 0x00
+    ∷ 0x10 ∷ 0x80 ∷ 0x08 ∷ 0x00
+    ∷ 0x00 ∷ 0x00 ∷ 0x00 ∷ 0x01
+    ∷ 0x00 ∷ 0x00 ∷ 0x00 ∷ 0x07
+    ∷ 0x04
+    ∷ 0xFF ∷ 0xFF ∷ 0xFF ∷ 0xFF
+    ∷ 0x00 ∷ 0x00 ∷ 0x00 ∷ 0x00 ∷ 0x00 ∷ 0x00 ∷ 0x00 ∷ 0x00
+    ∷ 0x00 ∷ 0x00 ∷ 0xFF ∷ 0xFF ∷ 0xC0 ∷ 0x00 ∷ 0x02 ∷ 0x01
+    ∷ 0x00
+    ∷ 0x00 ∷ 0x00
+    ∷ 0x00 ∷ 0x09 ∷ 0x01 ∷ 0x00 ∷ 0x00 ∷ 0x00 ∷ 0x00 ∷ 0x00 ∷ 0x00 ∷ 0x00 ∷ 0x00
     ∷ 0x00 ∷ 0x02 ∷ 0x83 ∷ 0x2F
     ∷ 0xA1 ∷ 0xB2 ∷ []
 
@@ -140,19 +165,19 @@ EdgeTable =
     × (indicator 0 false ≡ 0) × (indicator 127 false ≡ 255) × (indicator 40000 false ≡ 255)
     -- with u: 0, 3, 127 give 128, 3, 127
     × (indicator 0 true ≡ 128) × (indicator 3 true ≡ 3) × (indicator 127 true ≡ 127)
-    -- limit 128, f 0, release 4: body 74 placed, 75 lost; release 7: 71 placed, 72 lost
-    × Placed release4 74 × LostThere release4 75
-    × Placed release7 71 × LostThere release7 72
-    -- that file holding a release-4 body of 20, flag 0: release-7 body 48 of the same format joins it, 49 closes it with 1
-    × (answers (behind20 48) ≡ placed ∷ placed ∷ [])
-    × (answers (behind20 49) ≡ placed ∷ answered 2 0 1 74 ∷ [])
-    × (booked (behind20 48) ≡ placed ∷ placed ∷ [])
-    × (booked (behind20 49) ≡ placed ∷ answered 2 0 1 74 ∷ [])
-    × (getD (getD (outputs 74 (behind20 49)) 1 []) 26 0 ≡ 1)
+    -- limit 128, f 0, release 4: body 63 placed, 64 lost; release 7: 60 placed, 61 lost
+    × Placed release4 63 × LostThere release4 64
+    × Placed release7 60 × LostThere release7 61
+    -- that file holding a release-4 body of 20, flag 0: release-7 body 37 of the same format joins it, 38 closes it with 1
+    × (answers (behind20 37) ≡ placed ∷ placed ∷ [])
+    × (answers (behind20 38) ≡ placed ∷ answered 2 0 1 85 ∷ [])
+    × (booked (behind20 37) ≡ placed ∷ placed ∷ [])
+    × (booked (behind20 38) ≡ placed ∷ answered 2 0 1 85 ∷ [])
+    × (getD (getD (outputs 85 (behind20 38)) 1 []) 26 0 ≡ 1)
     -- the file, as a layout and through the events
-    × (layout file ≡ octets)
-    × (outputs 58 fileEvents ≡ replicate 58 0xEE ∷ replicate 58 0xEE ∷ (octets ++ (0xEE ∷ 0xEE ∷ [])) ∷ [])
-    × (filed fileEvents ≡ [] ∷ [] ∷ octets ∷ [])
+    × (layout countedFile ≡ countedOctets)
+    × (outputs 69 fileEvents ≡ replicate 69 0xEE ∷ replicate 69 0xEE ∷ (countedOctets ++ (0xEE ∷ 0xEE ∷ [])) ∷ [])
+    × (filed fileEvents ≡ [] ∷ [] ∷ countedOctets ∷ [])
 
 pub edge-table : EdgeTable
 unfolding wordsOf managerIn routeIn openOn closeOn receiveOn stampOf timestampOf wordOf dateFrom monthDays fileOctets fixedOctets recordsOctets recordOctets highest lowest freshOf settingsVerdict wrongShape beyondRange equalFilters settingsRight sameFilter stateRight fileRight fits routeOf openOf closeOf receiveOf closedFile splice answerOf entryOf
@@ -215,14 +240,15 @@ pub records-of-000 : RecordsOf000
 unfolding recordOctets
 records-of-000 = (refl, refl)
 
--- The table's file, read, stepped over and written.
+-- The file of document 01, without an extension, laid out, read, stepped over and written.
 abbrev noOctets : ℕ → Part
 noOctets start = record { start = start; octets = 0 }
 
 abbrev pub TableFile : Type 0
 TableFile =
+    (layout file ≡ octets)
     -- the reader accepts it and hands the same fields back
-    (readOf octets
+    × (readOf octets
     ≡ record {
       refusal = 0;
       header = header;
@@ -239,8 +265,8 @@ TableFile =
     × (writeOf header [] [] recordPart (replicate 55 0xEE) ≡ after (record { refusal = 17; octets = 56 }) (replicate 55 0xEE))
 
 pub table-file : TableFile
-unfolding readOf verdict wrongLength wrongHeaderLength headerAt fieldsOf timestampOf wordOf dateFrom monthDays tallyOf walkOf cut stepOf highest lowest writeOf writerVerdict splice fileOctets fixedOctets
-table-file = (refl, refl, refl, refl, refl)
+unfolding readOf verdict wrongLength wrongHeaderLength headerAt fieldsOf timestampOf wordOf dateFrom monthDays tallyOf walkOf cut stepOf highest lowest writeOf writerVerdict splice fileOctets fixedOctets recordsOctets recordOctets
+table-file = (refl, refl, refl, refl, refl, refl)
 
 -- One change to the table's file for each refusal of the reader.
 abbrev pub Damaged : Type 0

@@ -2,7 +2,7 @@
 -- the state that they stand for. Encoding and decoding undo each other by a law, so that a field in a wrong place would pass
 -- there; here it would not. Assumes nothing.
 use mathlib.Core.Path.{_≡_, refl}
-use mathlib.Core.Bool.{true, false}
+use mathlib.Core.Bool.{true}
 use mathlib.Core.List.{List, [], _∷_}
 use Prim.Native.Nat.{ℕ}
 use lib.ListN.{replicate, take}
@@ -11,7 +11,7 @@ use Rattle.state.specs.Manager.{Manager}
 use Rattle.settings.specs.Settings.{unusedRoute}
 use Rattle.words.specs.Words.{routeIn, managerIn, wordsOf}
 
--- a route with an open file, and no unrouted record noted
+-- a route with an open file
 abbrev route : Route
 route =
     record {
@@ -27,7 +27,7 @@ route =
           };
       next = 4294967295;
       losses = 40000;
-      note = false;
+      unrouted = 13;
       «open» = true;
       file =
           record {
@@ -61,14 +61,14 @@ words =
     ∷ 0x01020304 ∷ 0x05060708 ∷ 0x090A0B0C ∷ 0x0D0E0F10 ∷ 0x11121314
     ∷ 0x14070203
     ∷ 128 ∷ 60 ∷ 10
-    ∷ 4294967295 ∷ 40000
+    ∷ 4294967295 ∷ 40000 ∷ 13
     ∷ 6
     ∷ 0x80000064 ∷ 101
     ∷ 0x02070809 ∷ 0x01040005
     ∷ 11 ∷ 44
     ∷ []
 
-pub places : take 26 (wordsOf state) ≡ words
+pub places : take 27 (wordsOf state) ≡ words
 unfolding wordsOf
 places = refl
 

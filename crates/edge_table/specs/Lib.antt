@@ -2,3 +2,4 @@ pub mod Manager
 pub mod EdgeTable
 pub mod Shared
 pub mod Layout
+pub mod LossCounts

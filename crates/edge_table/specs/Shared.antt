@@ -1,6 +1,6 @@
 -- What the manager's definitions and the ledger share, held apart from both by evaluation: where each setting stands in the
 -- octets, when a filter fits, which one is chosen and what a header carries of it, the loss rule, which of two releases is later and
--- when two are the same, the record of an arrival, which refusal is the first, and the form of an answer. A mistake in one of these
+-- when two are the same, the record of an arrival, which refusal is the first, and the form of an answer (LossCounts has the octets of the loss counts). A mistake in one of these
 -- would stand on both sides of demand 3 and prove (document 01, Settings; Record header; Routing and loss; Refusals). Then each
 -- condition of refusals 5 and 7 with its neighbour that passes, which the ledger states in words of its own. Assumes nothing.
 use mathlib.Core.Path.{_≡_, refl}
@@ -88,10 +88,10 @@ secondSettings =
     }
 
 abbrev route : RouteSettings → ℕ → Route
-route s next = record { settings = s; next = next; losses = 0; note = false; «open» = false; file = noFile }
+route s next = record { settings = s; next = next; losses = 0; unrouted = 0; «open» = false; file = noFile }
 
 abbrev line : RouteSettings → ℕ → Line
-line s next = record { settings = s; received = 0; lost = 0; next = next; losses = 0; note = false; closed = []; current = none }
+line s next = record { settings = s; received = 0; lost = 0; next = next; losses = 0; unrouted = 0; closed = []; current = none }
 
 abbrev manager : Manager
 manager =
@@ -226,9 +226,9 @@ LossRule =
     (lost 128 0 0 (of 4 0 3) 2 ≡ false) × (lost 128 0 1 (of 4 0 3) 2 ≡ true)
     -- the longest body, on a route with room for both
     × (lost 1048576 0 0 (of 4 0 3) 65534 ≡ false) × (lost 1048576 0 0 (of 4 0 3) 65535 ≡ true)
-    -- the size limit, with a filter of 3 octets: 50 + 3 + 4 + 71; of release 7: 52 + 3 + 5 + 68
-    × (lost 128 3 0 (of 4 0 3) 71 ≡ false) × (lost 128 3 0 (of 4 0 3) 72 ≡ true)
-    × (lost 128 3 0 (of 7 2 3) 68 ≡ false) × (lost 128 3 0 (of 7 2 3) 69 ≡ true)
+    -- the size limit, with a filter of 3 octets: 50 + 3 + 11 + 4 + 60; of release 7: 52 + 3 + 11 + 5 + 57
+    × (lost 128 3 0 (of 4 0 3) 60 ≡ false) × (lost 128 3 0 (of 4 0 3) 61 ≡ true)
+    × (lost 128 3 0 (of 7 2 3) 57 ≡ false) × (lost 128 3 0 (of 7 2 3) 58 ≡ true)
 
 pub loss-rule : LossRule
 loss-rule = (refl, refl, refl, refl, refl, refl, refl, refl)

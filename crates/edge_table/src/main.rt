@@ -1,5 +1,5 @@
-// The edge table's rows that are executed: timestamps, lost indicators, damaged files, and the table's file read, stepped over
-// and written. Each case is a line, and the file `stdout` has what is expected. The starred rows are shown by evaluation in
+// The edge table's rows that are executed: timestamps, lost indicators, loss counts, damaged files, and the table's file, without
+// the loss counts and with them, read, stepped over and written. Each case is a line, and the file `stdout` has what is expected. The starred rows are shown by evaluation in
 // specs/EdgeTable.
 use libc::STDOUT_FILENO;
 ghost use mathlib.Core.Path.{_≡_};
@@ -75,7 +75,7 @@ fn far_stamps() {
     stamp(52596000, 2879);
 }
 
-// The lost indicator of so many known losses, without the note of an unrouted record and with it.
+// The lost indicator of so many known losses, without an unrouted record and with one.
 fn indicator(losses: u32) {
     field(b"losses ", losses as usize);
     field(b": ", state::lost_indicator(losses, false) as usize);
@@ -96,7 +96,27 @@ fn indicators() {
     indicator(4294967295);
 }
 
-// The table's file.
+// What private octets say of losses: whether they are the counts, and the two.
+fn counts_in(private: &[u8]) {
+    let c = counts::read(private);
+    field(b"private octets ", private.len());
+    field(b": ", c.there as usize);
+    field(b", losses ", c.losses as usize);
+    field(b", unrouted ", c.unrouted as usize);
+    end();
+}
+
+// Counts with 40,000 losses; none; and what is no such extension: one octet too few, one too many, another kind, nothing.
+fn counts() {
+    counts_in(b"\x01\x00\x00\x9C\x40\x00\x00\x00\x03");
+    counts_in(b"\x01\x00\x00\x00\x00\x00\x00\x00\x00");
+    counts_in(b"\x01\x00\x00\x9C\x40\x00\x00\x00");
+    counts_in(b"\x01\x00\x00\x9C\x40\x00\x00\x00\x03\x00");
+    counts_in(b"\x00\x00\x00\x9C\x40\x00\x00\x00\x03");
+    counts_in(b"");
+}
+
+// The table's file, as document 01 has it.
 fn table_file() -> [u8; 56]
     ensures { λ r. ⌜ 56 ≡ length r ⌝ }
 {
@@ -148,6 +168,81 @@ fn table_file() -> [u8; 56]
         0x00,
         0x02,
         0x01,
+        0x00,
+        0x00,
+        0x00,
+        0x00,
+        0x02,
+        0x83,
+        0x2F,
+        0xA1,
+        0xB2,
+    ]
+}
+
+// And with the loss counts of document 02, ask 3, as the manager closes it.
+fn counted_file() -> [u8; 67]
+    ensures { λ r. ⌜ 67 ≡ length r ⌝ }
+{
+    [
+        0x00,
+        0x00,
+        0x00,
+        0x43,
+        0x00,
+        0x00,
+        0x00,
+        0x3D,
+        0x83,
+        0x83,
+        0x10,
+        0x80,
+        0x08,
+        0x00,
+        0x10,
+        0x80,
+        0x08,
+        0x00,
+        0x00,
+        0x00,
+        0x00,
+        0x01,
+        0x00,
+        0x00,
+        0x00,
+        0x07,
+        0x04,
+        0xFF,
+        0xFF,
+        0xFF,
+        0xFF,
+        0x00,
+        0x00,
+        0x00,
+        0x00,
+        0x00,
+        0x00,
+        0x00,
+        0x00,
+        0x00,
+        0x00,
+        0xFF,
+        0xFF,
+        0xC0,
+        0x00,
+        0x02,
+        0x01,
+        0x00,
+        0x00,
+        0x00,
+        0x00,
+        0x09,
+        0x01,
+        0x00,
+        0x00,
+        0x00,
+        0x00,
+        0x00,
         0x00,
         0x00,
         0x00,
@@ -255,11 +350,24 @@ fn table_file_cases() {
     written(&file, &mut short);
 }
 
+fn counted_file_cases() {
+    let file = counted_file();
+    let c = reader::read(&file);
+    counts_in(reader::part_of(&file, c.private));
+    step(&file, 61);
+    let mut long = [238u8; 69];
+    written(&file, &mut long);
+    let mut short = [238u8; 66];
+    written(&file, &mut short);
+}
+
 fn main() {
     stamps();
     far_stamps();
     indicators();
+    counts();
     damaged_headers();
     damaged_records();
     table_file_cases();
+    counted_file_cases();
 }

@@ -17,11 +17,10 @@ use Rattle.state.specs.declared.Route.{Route}
 use Rattle.state.specs.declared.Node.{Node}
 use Rattle.state.specs.Manager.{Manager}
 use Rattle.state.specs.Manager.{routeAt, base, regions, effective, nodeOf}
-use Rattle.state.specs.Loss.{indicator}
 use Rattle.state.specs.Bounds.{stateRight}
 use Rattle.state.specs.Regions.{region-within, regions-all}
 use Rattle.state.specs.Within.{Within, within}
-use Rattle.filing.specs.Closing.{closedFile, closedSize}
+use Rattle.filing.specs.Closing.{lostOctet, closedFile, closedSize}
 use Rattle.filing.specs.Closed.{closedFrom, closed-is}
 use Rattle.filing.specs.Needs.{Closable}
 use Rattle.events.specs.Events.{Outcome}
@@ -253,7 +252,7 @@ module _ (m : Manager) (store output : List ℕ) (time : ℕ) where
 -- An open file of a state within its bounds can be closed wherever the output has room for it.
 pub closes : {m : Manager} → Within m → (store : List ℕ) → base m (m .count) ≤ length store → (i : ℕ) → i < m .count
     → routeAt m i .«open» ≡ true → (output : List ℕ) (at : ℕ) → at + closedSize (routeAt m i) ≤ length output
-    → Closable (nodeOf m) (routeAt m i) (indicator (routeAt m i .losses) (routeAt m i .note)) store (base m i) output at
+    → Closable (nodeOf m) (routeAt m i) (lostOctet (routeAt m i)) store (base m i) output at
 closes {m} w store whole i there live output at room =
     let s = w .routes i there .settings in
     let f = w .routes i there .file live in
@@ -279,8 +278,8 @@ closes {m} w store whole i there live output at room =
 
 -- the same of a node, a route and a place that are the state's
 pub closable-as : (m : Manager) (i : ℕ) {n : Node} {r : Route} {from : ℕ} {store output : List ℕ} {at : ℕ} → n ≡ nodeOf m → r ≡ routeAt m i → from ≡ base m i
-    → Closable (nodeOf m) (routeAt m i) (indicator (routeAt m i .losses) (routeAt m i .note)) store (base m i) output at
-    → Closable n r (indicator (r .losses) (r .note)) store from output at
+    → Closable (nodeOf m) (routeAt m i) (lostOctet (routeAt m i)) store (base m i) output at
+    → Closable n r (lostOctet r) store from output at
 closable-as m i en er eb k = rw (en, er, eb) k
 
 -- and what it writes is the file of the state's route

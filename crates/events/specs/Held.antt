@@ -30,18 +30,18 @@ use Rattle.events.specs.Receive.{isLost, turns, holding, finished, count
 -- What is done to a route.
 module _ {r : Route} (h : HeldRoute r) where
   held-opened : (t : ℕ) → t < 2147483648 → HeldRoute (openedRoute r t)
-  held-opened t low = record { filter = h .filter; release = h .release; opened = low; appended = low; high = h .release; low = h .release }
+  held-opened t low = record { filter = h .filter; release = h .release; opened = low; high = h .release; low = h .release }
 
   held-closed : HeldRoute (closedRoute r)
   held-closed =
       let none : HeldRelease (record { release = 0; extension = 0; version = 0 }) = record { release = omega arith; extension = omega arith; version = omega arith } in
-      record { filter = h .filter; release = h .release; opened = omega arith; appended = omega arith; high = none; low = none }
+      record { filter = h .filter; release = h .release; opened = omega arith; high = none; low = none }
 
   held-lost : HeldRoute (lostRoute r)
-  held-lost = record { filter = h .filter; release = h .release; opened = h .opened; appended = h .appended; high = h .high; low = h .low }
+  held-lost = record { filter = h .filter; release = h .release; opened = h .opened; high = h .high; low = h .low }
 
   held-noted : HeldRoute (notedRoute r)
-  held-noted = record { filter = h .filter; release = h .release; opened = h .opened; appended = h .appended; high = h .high; low = h .low }
+  held-noted = record { filter = h .filter; release = h .release; opened = h .opened; high = h .high; low = h .low }
 
 -- one of two
 held-either : (b : Bool) {x y : Release} → HeldRelease x → HeldRelease y → HeldRelease (cond b x y)
@@ -52,13 +52,12 @@ either-route : (b : Bool) {x y : Route} → HeldRoute x → HeldRoute y → Held
 either-route true p q = p
 either-route false p q = q
 
-held-appended : {r : Route} → HeldRoute r → (x : RecordHeader) → HeldRelease (x .release) → (n t : ℕ) → t < 2147483648 → HeldRoute (appendedRoute r x n t)
-held-appended {r} h x g n t low =
+held-appended : {r : Route} → HeldRoute r → (x : RecordHeader) → HeldRelease (x .release) → (n t : ℕ) → HeldRoute (appendedRoute r x n t)
+held-appended {r} h x g n t =
     record {
       filter = h .filter;
       release = h .release;
       opened = h .opened;
-      appended = low;
       high = held-either (eqb (r .file .count) 0) g (held-either (ltb (rank (r .file .high)) (rank (x .release))) g (h .high));
       low = held-either (eqb (r .file .count) 0) g (held-either (ltb (rank (x .release)) (rank (r .file .low))) g (h .low));
     }
@@ -165,7 +164,7 @@ module _ {m : Manager} (h : Held m) (store output : List ℕ) (time : ℕ) where
         done k =
             let q = either-route (turns (routeAt m i) a (length body)) (held-opened (held-closed k) (effective m time) early)
             (either-route (routeAt m i .«open») k (held-opened k (effective m time) early)) in
-            let p = held-appended q (headerFor a) g (recordSize a (length body)) (effective m time) early in
+            let p = held-appended q (headerFor a) g (recordSize a (length body)) (effective m time) in
             either-route (full (holding (routeAt m i) a (length body) (effective m time))) (held-closed p) p
 
     pub receive-held : Held (receiveOf m store output time a key body .outcome .manager)

@@ -8,6 +8,7 @@ use lib.Dec.{ltb, eqb}
 use lib.ListN.{length, set}
 use Rattle.octets.specs.Splice.{splice}
 use Rattle.refusals.specs.Refusal.{Rule, _when_, first}
+use Rattle.refusals.specs.Below.{allBelow}
 use Rattle.record.specs.Record.{Record, recordOctets}
 use Rattle.state.specs.declared.Route.{Route}
 use Rattle.state.specs.Manager.{Manager}
@@ -76,12 +77,19 @@ needed m a key body t =
     (placedSize (routeAt m (routedTo m a key .at)) a body t)
     0
 
--- 19: a loss counter, that of unrouted records included, at 4,294,967,295 that would rise
+-- 19: a loss counter at 4,294,967,295 that would rise. An unrouted record raises the manager's counter and that of each configured
+-- route
+abbrev pub canNote : Manager → ℕ → Bool
+canNote m i = not (eqb (routeAt m i .unrouted) 4294967295)
+
+abbrev pub unroutedFull : Manager → Bool
+unroutedFull m = eqb (m .unrouted) 4294967295 || not (allBelow (canNote m) (m .count))
+
 abbrev pub countersFull : Manager → Arrival → List ℕ → ℕ → Bool
 countersFull m a key body =
     cond (routedTo m a key .found)
     (isLost m a (routedTo m a key .at) body && eqb (routeAt m (routedTo m a key .at) .losses) 4294967295)
-    (eqb (m .unrouted) 4294967295)
+    (unroutedFull m)
 
 abbrev pub receiveRules : Manager → ℕ → ℕ → ℕ → Arrival → List ℕ → ℕ → List Rule
 receiveRules m store output time a key body =
@@ -91,7 +99,7 @@ receiveRules m store output time a key body =
     ∷ (17 when ltb output (needed m a key body (effective m time)))
     ∷ [])
 
--- unrouted: noted on all configured routes
+-- unrouted: counted on all configured routes
 abbrev pub noted : Manager → ℕ → List Route
 noted m zero = m .routes
 noted m (suc n) = set (noted m n) n (notedRoute (routeAt m n))

@@ -29,25 +29,25 @@ openedRoute r t =
       settings = r .settings;
       next = (r .next + 1) % 2 ^ 32;
       losses = r .losses;
-      note = r .note;
+      unrouted = r .unrouted;
       «open» = true;
       file = openedFile (r .settings) (r .next) t;
     }
 
--- a closing clears the known losses and the note
+-- a closing clears the known losses and the unrouted records
 abbrev pub closedRoute : Route → Route
 closedRoute r =
-    record { settings = r .settings; next = r .next; losses = 0; note = false; «open» = false; file = noFile }
+    record { settings = r .settings; next = r .next; losses = 0; unrouted = 0; «open» = false; file = noFile }
 
 -- a lost record is one more known loss
 abbrev pub lostRoute : Route → Route
 lostRoute r =
-    record { settings = r .settings; next = r .next; losses = r .losses + 1; note = r .note; «open» = r .«open»; file = r .file }
+    record { settings = r .settings; next = r .next; losses = r .losses + 1; unrouted = r .unrouted; «open» = r .«open»; file = r .file }
 
--- an unrouted record is noted on a route
+-- an unrouted record is one more unrouted record of a route's time
 abbrev pub notedRoute : Route → Route
 notedRoute r =
-    record { settings = r .settings; next = r .next; losses = r .losses; note = true; «open» = r .«open»; file = r .file }
+    record { settings = r .settings; next = r .next; losses = r .losses; unrouted = r .unrouted + 1; «open» = r .«open»; file = r .file }
 
 -- the greater and the lesser of two releases
 abbrev pub later : Release → Release → Release
@@ -79,7 +79,7 @@ appendedFile f h octets t =
 
 abbrev pub appendedRoute : Route → RecordHeader → ℕ → ℕ → Route
 appendedRoute r h octets t =
-    record { settings = r .settings; next = r .next; losses = r .losses; note = r .note; «open» = r .«open»; file = appendedFile (r .file) h octets t }
+    record { settings = r .settings; next = r .next; losses = r .losses; unrouted = r .unrouted; «open» = r .«open»; file = appendedFile (r .file) h octets t }
 
 -- reason 5: the open file has records, and their format differs from the new one's, or the flag is 1 and their release,
 -- extension or version does

@@ -17,15 +17,15 @@ use Rattle.events.specs.Events.{After, after, refusalOf, refused, answer
 use Rattle.events.specs.Lent.{left, worded, unlike, lent}
 
 module _ (words store output : List ℕ) (event : Manager → After) where
-  pub other-number : (length words ≡ 152 → ⊥) → {r : Answer} → r ≡ refusalOf 18 0 → left r words store output ≡ lent words store output event
+  pub other-number : (length words ≡ 160 → ⊥) → {r : Answer} → r ≡ refusalOf 18 0 → left r words store output ≡ lent words store output event
   other-number n e =
       ap (λ (r : Answer). left r words store output) e
-      ∙ sym (λ i. cond (ne-eqb (length words) 152 n i) (worded (event (managerIn words))) (unlike words store output))
+      ∙ sym (λ i. cond (ne-eqb (length words) 160 n i) (worded (event (managerIn words))) (unlike words store output))
 
-  module _ (e : length words ≡ 152) where
+  module _ (e : length words ≡ 160) where
     -- what the event leaves on the state, as words
     pub right-number : {a : After} → a ≡ event (managerIn words) → worded a ≡ lent words store output event
-    right-number p = ap worded p ∙ sym (λ i. cond (eq-eqb (length words) 152 e i) (worded (event (managerIn words))) (unlike words store output))
+    right-number p = ap worded p ∙ sym (λ i. cond (eq-eqb (length words) 160 e i) (worded (event (managerIn words))) (unlike words store output))
 
     -- refused: the words are as they were
     pub way-refused : (n needed : ℕ) {r : Answer} {store′ output′ : List ℕ} → r ≡ refusalOf n needed
@@ -35,7 +35,7 @@ module _ (words store output : List ℕ) (event : Manager → After) where
     -- accepted: one route and the time are others
     pub way-changed : (i : ℕ) → i < 8 → (r : Route) → r .settings ≡ settingsAt (managerIn words) i → (t outcome files octets : ℕ)
         → {answer : Answer} {words′ store′ output′ : List ℕ} → answer ≡ answered outcome i files octets
-        → words′ ≡ set (splice words (17 + 18 * i) (changingWords r [])) 6 t
+        → words′ ≡ set (splice words (17 + 19 * i) (changingWords r [])) 6 t
         → after (changed (managerIn words) t i r outcome files octets) store′ output′ ≡ event (managerIn words)
         → left answer words′ store′ output′ ≡ lent words store output event
     way-changed i h r s t outcome files octets {store′ = store′} {output′ = output′} p q z =

@@ -1,14 +1,14 @@
 // What an opening and a closing do to a route, and when and with how many octets its file closes (document 01, The events).
 ghost use mathlib.Core.Path.{_≡_};
 ghost use mathlib.Core.Bool.{cond};
-ghost use Prim.Native.Nat.{_≤_};
+ghost use Prim.Native.Nat.{_<_};
 ghost use Rattle.filing.specs.Closing.{closedSize};
 ghost use Rattle.events.specs.Rules.{openedRoute, closedRoute, due};
 use record::Release;
 use state::OpenFile;
 use state::Route;
 
-// The route with an empty file, which takes the next sequence number; the number after 4,294,967,295 is 0. Losses and note stay:
+// The route with an empty file, which takes the next sequence number; the number after 4,294,967,295 is 0. Losses and unrouted records stay:
 // they count since the last file closed.
 pub fn opened_route(r: Route, t: u32) -> Route
     ensures { λ q. ⌜ q ≡ openedRoute r t ⌝ }
@@ -29,13 +29,13 @@ pub fn opened_route(r: Route, t: u32) -> Route
         settings: s,
         next: std::num::wrapping_add_u32(r.next, 1),
         losses: r.losses,
-        note: r.note,
+        unrouted: r.unrouted,
         open: true,
         file: file,
     }
 }
 
-// The route without a file, its losses and its note cleared.
+// The route without a file, its losses and its unrouted records cleared.
 pub fn closed_route(r: Route) -> Route
     ensures { λ q. ⌜ q ≡ closedRoute r ⌝ }
 {
@@ -59,7 +59,7 @@ pub fn closed_route(r: Route) -> Route
         settings: s,
         next: r.next,
         losses: 0,
-        note: false,
+        unrouted: 0,
         open: false,
         file: file,
     }
@@ -84,7 +84,7 @@ pub fn is_due(t: u32, r: Route) -> bool
 
 // The octets that a TICK at time t closes of the route.
 pub fn due_octets(t: u32, r: Route) -> usize
-    ensures { λ n. ⌜ (n ≡ cond (due t r) (closedSize r) 0) × (n ≤ 4294967602) ⌝ }
+    ensures { λ n. ⌜ (n ≡ cond (due t r) (closedSize r) 0) × (n < 8589934592) ⌝ }
 {
     let size = closed_size(r);
     if is_due(t, r) { size } else { 0 }

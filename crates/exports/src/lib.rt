@@ -1,5 +1,6 @@
 // The public calls for programs in other languages, under C's calling convention: tests and benchmarks link them.
 use cdrfile::Header;
+use counts::Counts;
 use events::Answer;
 use events::Arrival;
 use filename::Fields;
@@ -13,6 +14,7 @@ use writer::Written;
 ghost use mathlib.Core.Path.{_≡_};
 ghost use Rattle.record.specs.Step.{stepOf, stepAt};
 ghost use Rattle.reader.specs.Reader.{readOf};
+ghost use Rattle.counts.specs.Counts.{countsIn};
 ghost use Rattle.timestamp.specs.Stamp.{stampOf};
 ghost use Rattle.writer.specs.Writer.{after, writeOf};
 ghost use Rattle.settings.specs.Settings.{loadedOf};
@@ -54,6 +56,13 @@ pub extern "C" fn cdr_write(
     ensures { λ r. ⌜ after r (now (output .exit)) ≡ writeOf header (now (filter .entry)) (now (private .entry)) (now (records .entry)) (now (output .entry)) ⌝ }
 {
     writer::write(header, filter, private, records, output)
+}
+
+#[no_mangle]
+pub extern "C" fn cdr_counts(private: &[u8]) -> Counts
+    ensures { λ r. ⌜ r ≡ countsIn (now (private .entry)) ⌝ }
+{
+    counts::read(private)
 }
 
 #[no_mangle]

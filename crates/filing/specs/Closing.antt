@@ -1,14 +1,16 @@
--- A closing (document 01, File header, The events): the whole file of a route, from the state and from the records that stand
--- from its region's start. The manager writes FF FF FF FF before the 16 octets of the address, and no private extension.
--- Assumes nothing.
+-- A closing (document 01, File header, The events; document 02, ask 3): the whole file of a route, from the state and from the
+-- records that stand from its region's start. The manager writes FF FF FF FF before the 16 octets of the address, and the loss
+-- counts as private extension. Assumes nothing.
 use mathlib.Core.Path.{_≡_}
 use mathlib.Core.List.{List, [], _∷_}
 use Prim.Native.Nat.{ℕ, _+_}
 use native.Mathlib.Omega.{arith}
+use lib.Dec.{ltb}
 use lib.ListN.{length, take, drop}
 use Rattle.timestamp.specs.LocalTime.{timestampOf}
 use Rattle.cdrfile.specs.declared.Header.{Header}
 use Rattle.cdrfile.specs.File.{headerLength, fileOctets}
+use Rattle.counts.specs.Counts.{countOctets}
 use Rattle.state.specs.declared.Route.{Route}
 use Rattle.state.specs.declared.Node.{Node}
 use Rattle.state.specs.Manager.{Manager}
@@ -19,6 +21,13 @@ use Rattle.state.specs.Loss.{indicator}
 -- the octets before every address
 abbrev pub filler : List ℕ
 filler = 0xFF ∷ 0xFF ∷ 0xFF ∷ 0xFF ∷ []
+
+-- what the file says of losses: the indicator, whose u is that an unrouted record came, and the full counts
+abbrev pub lostOctet : Route → ℕ
+lostOctet r = indicator (r .losses) (ltb 0 (r .unrouted))
+
+abbrev pub countsOf : Route → List ℕ
+countsOf r = countOctets (r .losses) (r .unrouted)
 
 -- the header's fields at a closing with a reason
 abbrev pub headerFor : Node → Route → ℕ → Header
@@ -31,7 +40,7 @@ headerFor n r reason =
       sequence = r .file .sequence;
       reason = reason;
       address = 0xFF ∷ 0xFF ∷ 0xFF ∷ 0xFF ∷ n .address;
-      lost = indicator (r .losses) (r .note);
+      lost = lostOctet r;
     }
 
 -- the file's records, as they stand in the store
@@ -41,12 +50,13 @@ recordsAt m store i = take (routeAt m i .file .octets) (drop (base m i) store)
 -- the file that a closing writes
 unfoldable pub closedFile : Manager → List ℕ → ℕ → ℕ → List ℕ
 closedFile m store i reason =
-    fileOctets (headerFor (nodeOf m) (routeAt m i) reason) (filterOf (routeAt m i .settings)) [] (recordsAt m store i) (routeAt m i .file .count)
+    fileOctets (headerFor (nodeOf m) (routeAt m i) reason) (filterOf (routeAt m i .settings)) (countsOf (routeAt m i)) (recordsAt m store i) (routeAt m i .file .count)
 
 -- how long it is, from the state alone
 abbrev pub closedSize : Route → ℕ
 closedSize r = headerSize (r .settings .octets) (r .file .high) (r .file .low) + r .file .octets
 
--- which the size rule of state says of every header that the manager writes: it is the layout's, without a private extension
-pub header-size : (h : Header) (filter : List ℕ) → headerLength h filter [] ≡ headerSize (length filter) (h .high) (h .low)
-header-size h filter = omega arith
+-- which the size rule of state says of every header that the manager writes: it is the layout's, with the loss counts
+pub header-size : (h : Header) (filter : List ℕ) (losses unrouted : ℕ)
+    → headerLength h filter (countOctets losses unrouted) ≡ headerSize (length filter) (h .high) (h .low)
+header-size h filter losses unrouted = omega arith

@@ -2,7 +2,7 @@
 -- the record; the fixed octets and the node's leave the address; and a file laid out over the output from a place on is the
 -- closed file there. Assumes nothing.
 use mathlib.Core.Path.{_≡_, refl, sym, ap, _∙_}
-use mathlib.Core.List.{List, [], _++_, append-nil}
+use mathlib.Core.List.{List, _++_, append-nil}
 use Prim.Native.Nat.{ℕ, _+_, _-_, _≤_}
 use native.Mathlib.Omega.{arith}
 use native.Mathlib.Nat.{add-zero}
@@ -21,7 +21,7 @@ use Rattle.cdrfile.specs.Needs.{Writable, Layable}
 use Rattle.state.specs.declared.Route.{Route}
 use Rattle.state.specs.declared.Node.{Node}
 use Rattle.state.specs.Manager.{filterOf}
-use Rattle.filing.specs.Closing.{filler, headerFor, closedSize}
+use Rattle.filing.specs.Closing.{filler, headerFor, countsOf, closedSize}
 use Rattle.filing.specs.Closed.{closedFrom, closed-from-length}
 use Rattle.filing.specs.Needs.{Closable}
 
@@ -70,15 +70,15 @@ module _ (n : Node) (r : Route) (reason : ℕ) (store : List ℕ) (from : ℕ) (
         appended = timestamp-narrow (r .file .appended) (n .bias) (omega arith) (omega arith);
       }
 
-  module _ (twenty : length (r .settings .filter) ≡ 20) {h : Header} {k : ℕ} (eh : h ≡ headerFor n r reason) (en : k ≡ r .file .octets) where
+  module _ (twenty : length (r .settings .filter) ≡ 20) {h : Header} {private : List ℕ} {k : ℕ} (eh : h ≡ headerFor n r reason) (ep : private ≡ countsOf r) (en : k ≡ r .file .octets) where
     -- the file that is laid out is the closed one
-    pub laid-from : fileOctets h (filterOf (r .settings)) [] (take k (drop from store)) (r .file .count) ≡ closedFrom n r reason store from
-    laid-from = λ i. fileOctets (eh i) (filterOf (r .settings)) [] (take (en i) (drop from store)) (r .file .count)
+    pub laid-from : fileOctets h (filterOf (r .settings)) private (take k (drop from store)) (r .file .count) ≡ closedFrom n r reason store from
+    laid-from = λ i. fileOctets (eh i) (filterOf (r .settings)) (ep i) (take (en i) (drop from store)) (r .file .count)
 
-    laid-length : length (fileOctets h (filterOf (r .settings)) [] (take k (drop from store)) (r .file .count)) ≡ closedSize r
+    laid-length : length (fileOctets h (filterOf (r .settings)) private (take k (drop from store)) (r .file .count)) ≡ closedSize r
     laid-length = ap length laid-from ∙ closed-from-length n r reason store from (able .records) (able .filter) twenty
 
-    pub layable : Layable h (filterOf (r .settings)) [] (take k (drop from store)) (r .file .count) (take (length output - at) (drop at output))
+    pub layable : Layable h (filterOf (r .settings)) private (take k (drop from store)) (r .file .count) (take (length output - at) (drop at output))
     layable =
         let d = length-drop at output in
         let p = length-take-le (length output - at) (drop at output) (omega arith) in
@@ -89,7 +89,7 @@ module _ (n : Node) (r : Route) (reason : ℕ) (store : List ℕ) (from : ℕ) (
           room = omega (arith, laid-length, able .room);
         }
 
-    pub closed : {part : List ℕ} → part ≡ splice (take (length output - at) (drop at output)) 0 (fileOctets h (filterOf (r .settings)) [] (take k (drop from store)) (r .file .count))
+    pub closed : {part : List ℕ} → part ≡ splice (take (length output - at) (drop at output)) 0 (fileOctets h (filterOf (r .settings)) private (take k (drop from store)) (r .file .count))
         → putMid at (length output - at) output part ≡ splice output at (closedFrom n r reason store from)
     closed e =
         let l = laid-length in

@@ -8,8 +8,7 @@ use Rattle.record.specs.Release.{headerLength}
 use Rattle.record.specs.HeaderOctets.{NarrowHeader}
 use Rattle.state.specs.declared.Route.{Route}
 use Rattle.state.specs.declared.Node.{Node}
-use Rattle.state.specs.Loss.{indicator}
-use Rattle.filing.specs.Closing.{closedSize}
+use Rattle.filing.specs.Closing.{lostOctet, closedSize}
 
 -- a record can be written, and fits the part behind what is used of it
 pub record Fitting (part : List ℕ) (used : ℕ) (h : RecordHeader) (body : List ℕ) : Type 0 where
@@ -28,7 +27,7 @@ pub record Headed (n : Node) (r : Route) (octet : ℕ) : Type 0 where
   pub opened : r .file .opened ≤ 52595999
   pub appended : r .file .appended ≤ 52595999
   pub bias : n .bias ≤ 2878
-  pub lost : octet ≡ indicator (r .losses) (r .note)
+  pub lost : octet ≡ lostOctet r
 
 -- the header's fields are in range, the file's records lie in the store, and the file fits the output from a place on
 pub record Closable (n : Node) (r : Route) (octet : ℕ) (store : List ℕ) (base : ℕ) (output : List ℕ) (at : ℕ) : Type 0 where

@@ -8,8 +8,7 @@ ghost use mathlib.Core.List.{_++_};
 ghost use Prim.Native.Nat.{_+_};
 ghost use Rattle.octets.specs.Splice.{splice};
 ghost use Rattle.record.specs.Record.{recordOctets};
-ghost use Rattle.state.specs.Loss.{indicator};
-ghost use Rattle.filing.specs.Closing.{filler, headerFor};
+ghost use Rattle.filing.specs.Closing.{filler, headerFor, lostOctet};
 ghost use Rattle.filing.specs.Closed.{closedFrom};
 ghost use Rattle.filing.specs.Needs.{Appendable, Fitting, Headed, Closable};
 
@@ -93,11 +92,12 @@ fn close_into(
     let h = header_for(n, r, reason, lost);
     let filter = r.settings.filter;
     let octets = r.settings.octets as usize;
+    let counts = counts::octets_of(r.losses, r.unrouted);
     let end = base + r.file.octets as usize;
     cdrfile::lay_out(
         h,
         &filter[..octets],
-        b"",
+        &counts,
         &store[base..end],
         r.file.count as usize,
         &mut output[at..],
@@ -114,9 +114,9 @@ pub fn close_file(
     output: &mut [u8],
     at: usize,
 )
-    requires { ⌜ Closable n r (indicator (r .losses) (r .note)) (now store) base (now output) at ⌝ }
+    requires { ⌜ Closable n r (lostOctet r) (now store) base (now output) at ⌝ }
     ensures { λ _. ⌜ now (output .exit) ≡ splice (now (output .entry)) at (closedFrom n r reason (now (store .entry)) base) ⌝ }
 {
-    let lost = state::lost_indicator(r.losses, r.note);
+    let lost = state::lost_indicator(r.losses, 0 < r.unrouted);
     close_into(n, r, reason, lost, store, base, output, at);
 }

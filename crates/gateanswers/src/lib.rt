@@ -101,13 +101,13 @@ fn print_route(page: &mut [u8], p: Printer, index: usize, r: Route) -> Printer {
     let count = open_count(r);
     let a = put_start(page, p, b'q', index as u64, r.open as u64);
     let b = put_fields(page, a, count as u64, r.losses as u64);
-    let c = put_fields(page, b, r.note as u64, r.next as u64);
+    let c = put_fields(page, b, r.unrouted as u64, r.next as u64);
     put_end(page, c)
 }
 
 // The lines of the first `n` routes.
 fn print_routes(page: &mut [u8], p: Printer, words: &[u32], n: usize) -> Printer
-    requires { ⌜ (length (now words) ≡ 152) × (n ≤ 8) ⌝ }
+    requires { ⌜ (length (now words) ≡ 160) × (n ≤ 8) ⌝ }
 {
     let mut q = p;
     let mut i: usize = 0;
@@ -126,7 +126,7 @@ fn wide(w: u32) -> u64 {
 
 // The lines of the state: last time and number of unrouted records, and then the routes. Words that are no state print nothing.
 pub fn print_state(page: &mut [u8], p: Printer, words: &[u32]) -> Printer {
-    if words.len() != 152 {
+    if words.len() != 160 {
         return p;
     }
     let a = put_start(page, p, b'Q', wide(words[6]), wide(words[7]));

@@ -25,7 +25,7 @@ filterSum xs = getD xs 0 0 + getD xs 1 0 + getD xs 2 0 + getD xs 3 0 + getD xs 4
 
 -- the sums of the routes below n
 abbrev pub SumsOf : List ℕ → List ℕ → ℕ → Type 0
-SumsOf xs sums n = (i : ℕ) → i < n → getD sums i 0 ≡ filterSum (drop (8 + 18 * i) xs)
+SumsOf xs sums n = (i : ℕ) → i < n → getD sums i 0 ≡ filterSum (drop (8 + 19 * i) xs)
 
 -- none of those below n is s
 abbrev pub otherSum : List ℕ → ℕ → ℕ → Bool
@@ -42,10 +42,10 @@ abbrev pub distinctSums : List ℕ → ℕ → Bool
 distinctSums sums n = allBelow (newSumAt sums) n
 
 -- One route's sum more.
-pub sums-more : (xs sums : List ℕ) (n s : ℕ) → n < length sums → s ≡ filterSum (drop (8 + 18 * n) xs) → SumsOf xs sums n → SumsOf xs (set sums n s) (n + 1)
+pub sums-more : (xs sums : List ℕ) (n s : ℕ) → n < length sums → s ≡ filterSum (drop (8 + 19 * n) xs) → SumsOf xs sums n → SumsOf xs (set sums n s) (n + 1)
 sums-more xs sums n s l e h i k = go (ℕ-discrete i n)
   where
-    go : Dec (i ≡ n) → getD (set sums n s) i 0 ≡ filterSum (drop (8 + 18 * i) xs)
+    go : Dec (i ≡ n) → getD (set sums n s) i 0 ≡ filterSum (drop (8 + 19 * i) xs)
     go (yes p) = rw p (getD-set-same sums n s 0 l ∙ e)
     go (no p) = getD-set-other sums n i s 0 p ∙ h i (omega arith)
 
@@ -72,7 +72,7 @@ other-filter xs ys h = go (sameFilter (settingsIn xs) (settingsIn ys)) refl
     go true e = absurd (h (same-sum xs ys e))
     go false e = refl
 
-settings-of : (xs : List ℕ) (i : ℕ) → i < 8 → settingsAt (managerIn xs) i ≡ settingsIn (drop (8 + 18 * i) xs)
+settings-of : (xs : List ℕ) (i : ℕ) → i < 8 → settingsAt (managerIn xs) i ≡ settingsIn (drop (8 + 19 * i) xs)
 unfolding routeIn
 settings-of xs i h = ap (λ (r : Route). r .settings) (route-in xs i h)
 
@@ -82,7 +82,7 @@ module _ (xs sums : List ℕ) (n : ℕ) (most : n ≤ 8) (are : SumsOf xs sums n
       → not (sameFilter (settingsAt (managerIn xs) i) (settingsAt (managerIn xs) j)) ≡ true
   apart i j hi hj e =
       (λ k. not (sameFilter (settings-of xs i (omega arith) k) (settings-of xs j (omega arith) k)))
-      ∙ other-filter (drop (8 + 18 * i) xs) (drop (8 + 18 * j) xs) (λ p. eqb-false (getD sums i 0) (getD sums j 0) (not-true (eqb (getD sums i 0) (getD sums j 0)) e) (are i hi ∙ p ∙ sym (are j hj)))
+      ∙ other-filter (drop (8 + 19 * i) xs) (drop (8 + 19 * j) xs) (λ p. eqb-false (getD sums i 0) (getD sums j 0) (not-true (eqb (getD sums i 0) (getD sums j 0)) e) (are i hi ∙ p ∙ sym (are j hj)))
 
   new-filter : (i : ℕ) → i < n → newSumAt sums i ≡ true → newAt (managerIn xs) i ≡ true
   new-filter i h e =

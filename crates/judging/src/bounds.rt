@@ -13,11 +13,11 @@ use words::settings_in;
 
 // Whether the route that these words begin with is right. A closed route's file is not looked at.
 fn route_right(last: u32, part: &[u32]) -> bool
-    requires { ⌜ 18 ≤ length (now part) ⌝ }
+    requires { ⌜ 19 ≤ length (now part) ⌝ }
     ensures { λ b. ⌜ b ≡ routeRight last (routeIn (now (part .entry))) ⌝ }
 {
     let right = settings_right(part);
-    let open = flag_of(part[12]);
+    let open = flag_of(part[13]);
     if !open {
         return right;
     }
@@ -29,14 +29,14 @@ fn route_right(last: u32, part: &[u32]) -> bool
 
 // Whether the routes below n are right.
 pub fn routes_right(words: &[u32], n: usize) -> bool
-    requires { ⌜ (length (now words) ≡ 152) × (n ≤ 8) ⌝ }
+    requires { ⌜ (length (now words) ≡ 160) × (n ≤ 8) ⌝ }
     ensures { λ b. ⌜ b ≡ routesRight (managerIn (now (words .entry))) n ⌝ }
 {
     let last = words[6];
     let mut all = true;
     let mut i: usize = 0;
     while i < n {
-        let at = 8 + 18 * i;
+        let at = 8 + 19 * i;
         let right = route_right(last, &words[at..]);
         all = all & right;
         i += 1;
@@ -46,7 +46,7 @@ pub fn routes_right(words: &[u32], n: usize) -> bool
 
 // Whether the state is within its bounds. More routes than eight are told first, so that none is looked for that is not there.
 pub fn state_right(words: &[u32]) -> bool
-    requires { ⌜ length (now words) ≡ 152 ⌝ }
+    requires { ⌜ length (now words) ≡ 160 ⌝ }
     ensures { λ b. ⌜ b ≡ stateRight (managerIn (now (words .entry))) ⌝ }
 {
     let n = count_of(words);

@@ -10,7 +10,7 @@ use words::top_of;
 
 // Whether the routes that these words begin with have the same filter: as long, and the same words.
 fn same_filter(a: &[u32], b: &[u32]) -> bool
-    requires { ⌜ (18 ≤ length (now a)) × (18 ≤ length (now b)) ⌝ }
+    requires { ⌜ (19 ≤ length (now a)) × (19 ≤ length (now b)) ⌝ }
     ensures { λ r. ⌜ r ≡ sameFilter (settingsIn (now (a .entry))) (settingsIn (now (b .entry))) ⌝ }
 {
     let one = top_of(a[5]);
@@ -21,14 +21,14 @@ fn same_filter(a: &[u32], b: &[u32]) -> bool
 
 // Whether no route below n has the filter of route i.
 fn is_new(words: &[u32], i: usize, n: usize) -> bool
-    requires { ⌜ (length (now words) ≡ 152) × (i < 8) × (n ≤ 8) ⌝ }
+    requires { ⌜ (length (now words) ≡ 160) × (i < 8) × (n ≤ 8) ⌝ }
     ensures { λ b. ⌜ b ≡ newTo (managerIn (now (words .entry))) (settingsAt (managerIn (now (words .entry))) i) n ⌝ }
 {
-    let of = 8 + 18 * i;
+    let of = 8 + 19 * i;
     let mut new = true;
     let mut j: usize = 0;
     while j < n {
-        let at = 8 + 18 * j;
+        let at = 8 + 19 * j;
         let same = same_filter(&words[at..], &words[of..]);
         new = new & !same;
         j += 1;
@@ -45,7 +45,7 @@ fn sum_of(a: u32, b: u32, c: u32, d: u32, e: u32) -> u64
 
 // The sum of the filter of the route that these words begin with.
 fn filter_sum(part: &[u32]) -> u64
-    requires { ⌜ 18 ≤ length (now part) ⌝ }
+    requires { ⌜ 19 ≤ length (now part) ⌝ }
     ensures { λ r. ⌜ r ≡ filterSum (now (part .entry)) ⌝ }
 {
     sum_of(part[0], part[1], part[2], part[3], part[4])
@@ -53,13 +53,13 @@ fn filter_sum(part: &[u32]) -> u64
 
 // The sums of the routes below n.
 fn filter_sums(words: &[u32], n: usize) -> [u64; 8]
-    requires { ⌜ (length (now words) ≡ 152) × (n ≤ 8) ⌝ }
+    requires { ⌜ (length (now words) ≡ 160) × (n ≤ 8) ⌝ }
     ensures { λ r. ⌜ SumsOf (now (words .entry)) r n ⌝ }
 {
     let mut sums = [0u64; 8];
     let mut i: usize = 0;
     while i < n {
-        let at = 8 + 18 * i;
+        let at = 8 + 19 * i;
         sums[i] = filter_sum(&words[at..]);
         i += 1;
     }
@@ -98,7 +98,7 @@ fn are_sums_distinct(sums: &[u64; 8], n: usize) -> bool
 // Whether no two of the routes below n have equal filters. As a rule a number of each tells: only where two are equal are the filters
 // compared.
 pub fn are_distinct(words: &[u32], n: usize) -> bool
-    requires { ⌜ (length (now words) ≡ 152) × (n ≤ 8) ⌝ }
+    requires { ⌜ (length (now words) ≡ 160) × (n ≤ 8) ⌝ }
     ensures { λ b. ⌜ b ≡ distinct (managerIn (now (words .entry))) n ⌝ }
 {
     let sums = filter_sums(words, n);

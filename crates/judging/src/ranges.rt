@@ -29,7 +29,7 @@ fn rest_zero(w: u32, u: u32) -> bool
 
 // Whether the filter's octets from n on are 0: from the last word down to the one in which the last octet that counts stands.
 fn unused_zero(part: &[u32], n: u32) -> bool
-    requires { ⌜ 18 ≤ length (now part) ⌝ }
+    requires { ⌜ 19 ≤ length (now part) ⌝ }
     ensures { λ b. ⌜ b ≡ zeroFrom (settingsIn (now (part .entry)) .filter) n 20 ⌝ }
 {
     if 16 <= n {
@@ -62,14 +62,14 @@ fn unused_zero(part: &[u32], n: u32) -> bool
 // Whether the settings of the route that these words begin with are in range. The filter is tested as words: laid out as octets
 // first, it would be waited for.
 pub fn settings_right(part: &[u32]) -> bool
-    requires { ⌜ 18 ≤ length (now part) ⌝ }
+    requires { ⌜ 19 ≤ length (now part) ⌝ }
     ensures { λ b. ⌜ b ≡ settingsRight (settingsIn (now (part .entry))) ⌝ }
 {
     let octets = top_of(part[5]);
     let unused = unused_zero(part, octets as u32);
     let release = release_in(part[5]);
     let narrow = record::is_narrow_release(release);
-    let flag = top_of(part[15]);
+    let flag = top_of(part[16]);
     let limit = part[6];
     (octets <= 20) & unused & (128 <= limit) & (limit <= 1048576) & (flag <= 1) & narrow
 }

@@ -48,7 +48,7 @@ pub record AgreesLine (store : List ℕ) (base : ℕ) (r : Route) (x : Line) : T
   pub settings : r .settings ≡ x .settings
   pub next : r .next ≡ x .next
   pub losses : r .losses ≡ x .losses
-  pub note : r .note ≡ x .note
+  pub unrouted : r .unrouted ≡ x .unrouted
   pub file : AgreesFile store base r (x .current)
   pub held : HeldSettings (r .settings)
   pub held-next : r .next < 2 ^ 32

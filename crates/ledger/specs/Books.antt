@@ -1,18 +1,22 @@
 -- What the ledger alone does over any list of events, with no manager: settings, address and bias never change; each event
 -- adds to a line's counts, closed files and records exactly what Demand3 counts of it in the list by the rules of routing and
--- loss; hence so does a list; and on every line of a fresh ledger received = closed + open + lost. Assumes nothing.
-use mathlib.Core.Path.{_≡_, refl, sym, ap, _∙_, subst}
+-- loss; hence so does a list; and on every line of a fresh ledger received = closed + open + lost, and the loss counts in its
+-- closed files and the pending ones are the lost and the unrouted records. Assumes nothing.
+use mathlib.Core.Path.{_≡_, refl, sym, ap, _∙_, subst, transport}
 use mathlib.Core.Bool.{Bool, true, false, cond, not, _&&_, _||_, true≢false, false≢true}
 use mathlib.Core.List.{List, [], _∷_, _++_, map, append-assoc, append-nil}
-use Prim.Native.Nat.{ℕ, zero, suc, _+_, _≤_, _<_}
+use Prim.Native.Nat.{ℕ, zero, suc, _+_, _≤_, _<_, _^_}
 use native.Mathlib.Omega.{arith}
 use lib.Dec.{ltb, leb, eqb, eqb·suc-zero}
 use lib.ListN.{length, getD, length-append, length-map, List·getD-map}
 use lib.Seq.{getD-set-same, getD-set-other, map-set-same}
 use borrow.Author.Tests.{eqb-true, eqb-false, eq-eqb, ne-eqb, leb-false}
-use Rattle.refusals.specs.Refusal.{_when_, passed}
+use Rattle.refusals.specs.Refusal.{_when_, passed, or-false}
 use Rattle.record.specs.Record.{Record}
 use Rattle.cdrfile.specs.File.{File}
+use Rattle.counts.specs.declared.Counts.{Counts as LossCounts}
+use Rattle.counts.specs.Counts.{countOctets, countsIn}
+use Rattle.counts.specs.Laws.{counts-there, counts-back}
 use Rattle.state.specs.declared.RouteSettings.{RouteSettings}
 use Rattle.state.specs.declared.Routed.{Routed}
 use Rattle.state.specs.Routing.{nobody, better, fits}
@@ -22,7 +26,7 @@ use Rattle.events.specs.declared.Arrival.{Arrival}
 use Rattle.events.specs.Lent.{Left}
 use Rattle.events.specs.Receive.{recordOf}
 use Rattle.ledger.specs.Event.{Event, OPEN, CLOSE, TICK, RECEIVE, Lent}
-use Rattle.ledger.specs.Ledger.{OpenFile, Current, none, some, Line, Ledger, noLine, lineAt, fileFrom, openLine, closeLine, withCurrent, receivedLine, lostLine, notedLine, appendTo, withLine, withTime, Closing, Entry, recordsIn, recordsOf, isOpen, opens, closeEntry, dueFile, closeDue, tickTo, ticks, amongLines, routedTo, lostBy, differsFrom, exceedsWith, fullWith, Ready, openFor, turnOver, readyBy, appendEntry, places, loses, notedLines, unroutes, effective, closingReasons, isOneOf, refusal, neededBy, regions, answerBy, entryBy, answerOf, entryOf}
+use Rattle.ledger.specs.Ledger.{OpenFile, Current, none, some, Line, Ledger, noLine, lineAt, fileFrom, openLine, closeLine, withCurrent, receivedLine, lostLine, notedLine, appendTo, withLine, withTime, Closing, Entry, recordsIn, recordsOf, isOpen, opens, closeEntry, dueFile, closeDue, tickTo, ticks, amongLines, routedTo, lostBy, differsFrom, exceedsWith, fullWith, Ready, openFor, turnOver, readyBy, appendEntry, places, loses, notedLines, unroutes, effective, closingReasons, isOneOf, fitsMark, anyFull, countersFull, refusal, neededBy, regions, answerBy, entryBy, answerOf, entryOf}
 use Rattle.ledger.specs.Run.{Booked, booked, booksOf, ledgerAfter, lineFrom, linesFrom, ledgerFrom}
 use Rattle.ledger.specs.Demand3.{receivedOn, lostRule, unroutedBy, one, received, lost, unrouted, placedIf, placed, onRoute, closedOn, AllBelow, Answered}
 
@@ -43,16 +47,50 @@ pub held-flat : (fs : List File) → length (flat fs) ≡ held fs
 held-flat [] = refl
 held-flat (f ∷ fs) = length-append (f .records) (flat fs) ∙ ap (λ (n : ℕ). length (f .records) + n) (held-flat fs)
 
--- What is done to a line: r more records received and s more lost, the files cs closed, and the records ps put behind those
--- in its closed files and its open one.
-pub record Step (x y : Line) (r s : ℕ) (cs : List File) (ps : List Record) : Type 0 where
+-- what the loss counts in some files say, and that each file has them
+abbrev pub known : List File → ℕ
+known [] = 0
+known (f ∷ fs) = countsIn (f .private) .losses + known fs
+
+abbrev pub noted : List File → ℕ
+noted [] = 0
+noted (f ∷ fs) = countsIn (f .private) .unrouted + noted fs
+
+abbrev pub Counted : List File → Type 0
+Counted [] = Unit {0}
+Counted (f ∷ fs) = (countsIn (f .private) .there ≡ true) × Counted fs
+
+known-append : (fs gs : List File) → known (fs ++ gs) ≡ known fs + known gs
+known-append [] gs = omega arith
+known-append (f ∷ fs) gs = omega (arith, known-append fs gs)
+
+noted-append : (fs gs : List File) → noted (fs ++ gs) ≡ noted fs + noted gs
+noted-append [] gs = omega arith
+noted-append (f ∷ fs) gs = omega (arith, noted-append fs gs)
+
+counted-append : (fs gs : List File) → Counted fs → Counted gs → Counted (fs ++ gs)
+counted-append [] gs a b = b
+counted-append (f ∷ fs) gs a b = (a .0, counted-append fs gs (a .1) b)
+
+-- a line's counters have room in a file's four octets, which refusal 19 keeps so
+pub record Small (x : Line) : Type 0 where
+  pub losses : x .losses < 2 ^ 32
+  pub unrouted : x .unrouted < 2 ^ 32
+
+-- What is done to a line: r more records received and s more lost, u more unrouted, the files cs closed, and the records ps put
+-- behind those in its closed files and its open one.
+pub record Step (x y : Line) (r s u : ℕ) (cs : List File) (ps : List Record) : Type 0 where
   pub settings : y .settings ≡ x .settings
   pub received : y .received ≡ x .received + r
   pub lost : y .lost ≡ x .lost + s
   pub closed : y .closed ≡ x .closed ++ cs
   pub records : flat (y .closed) ++ recordsOf y ≡ (flat (x .closed) ++ recordsOf x) ++ ps
+  pub small : Small x → Small y
+  pub known : Small x → known (y .closed) + y .losses ≡ known (x .closed) + x .losses + s
+  pub noted : Small x → noted (y .closed) + y .unrouted ≡ noted (x .closed) + x .unrouted + u
+  pub counted : Counted cs
 
-pub stays : (x : Line) → Step x x 0 0 [] []
+pub stays : (x : Line) → Step x x 0 0 0 [] []
 stays x =
     record {
       settings = refl;
@@ -60,11 +98,15 @@ stays x =
       lost = omega arith;
       closed = sym (append-nil (x .closed));
       records = sym (append-nil (flat (x .closed) ++ recordsOf x));
+      small = λ h. h;
+      known = λ h. omega arith;
+      noted = λ h. omega arith;
+      counted = tt;
     }
 
-pub behind : {x y z : Line} {r s u v : ℕ} {cs ds : List File} {ps qs : List Record} → Step x y r s cs ps → Step y z u v ds qs
-    → Step x z (r + u) (s + v) (cs ++ ds) (ps ++ qs)
-behind {x} {y} {z} {r} {s} {u} {v} {cs} {ds} {ps} {qs} p q =
+pub behind : {x y z : Line} {r s u r′ s′ u′ : ℕ} {cs ds : List File} {ps qs : List Record} → Step x y r s u cs ps → Step y z r′ s′ u′ ds qs
+    → Step x z (r + r′) (s + s′) (u + u′) (cs ++ ds) (ps ++ qs)
+behind {x} {cs = cs} {ds} {ps} {qs} p q =
     record {
       settings = q .settings ∙ p .settings;
       received = omega (arith, p .received, q .received);
@@ -72,23 +114,51 @@ behind {x} {y} {z} {r} {s} {u} {v} {cs} {ds} {ps} {qs} p q =
       closed = q .closed ∙ ap (λ (fs : List File). fs ++ ds) (p .closed) ∙ append-assoc (x .closed) cs ds;
       records =
           q .records ∙ ap (λ (rs : List Record). rs ++ qs) (p .records) ∙ append-assoc (flat (x .closed) ++ recordsOf x) ps qs;
+      small = λ h. q .small (p .small h);
+      known = λ h. omega (arith, p .known h, q .known (p .small h));
+      noted = λ h. omega (arith, p .noted h, q .noted (p .small h));
+      counted = counted-append cs ds (p .counted) (q .counted);
     }
 
 module _ (x : Line) where
-  step-received : Step x (receivedLine x) 1 0 [] []
+  -- nothing that the loss counts look at is another
+  same-small : {y : Line} → y .losses ≡ x .losses → y .unrouted ≡ x .unrouted → Small x → Small y
+  same-small p q h = record { losses = omega (arith, h .losses); unrouted = omega (arith, h .unrouted) }
+
+  step-received : Step x (receivedLine x) 1 0 0 [] []
   step-received = let s = stays x in
-      record { settings = refl; received = refl; lost = s .lost; closed = s .closed; records = s .records }
+      record { settings = refl; received = refl; lost = s .lost; closed = s .closed; records = s .records; small = same-small refl refl; known = s .known; noted = s .noted; counted = tt }
 
-  step-lost : Step x (lostLine x) 1 1 [] []
-  step-lost = let s = stays x in
-      record { settings = refl; received = refl; lost = refl; closed = s .closed; records = s .records }
+  step-lost : (x .losses ≡ 4294967295 → ⊥) → Step x (lostLine x) 1 1 0 [] []
+  step-lost room = let s = stays x in
+      record {
+        settings = refl;
+        received = refl;
+        lost = refl;
+        closed = s .closed;
+        records = s .records;
+        small = λ h. record { losses = omega (arith, h .losses, room); unrouted = h .unrouted };
+        known = λ h. omega arith;
+        noted = s .noted;
+        counted = tt;
+      }
 
-  step-noted : Step x (notedLine x) 0 0 [] []
-  step-noted = let s = stays x in
-      record { settings = refl; received = s .received; lost = s .lost; closed = s .closed; records = s .records }
+  step-noted : (x .unrouted ≡ 4294967295 → ⊥) → Step x (notedLine x) 0 0 1 [] []
+  step-noted room = let s = stays x in
+      record {
+        settings = refl;
+        received = s .received;
+        lost = s .lost;
+        closed = s .closed;
+        records = s .records;
+        small = λ h. record { losses = h .losses; unrouted = omega (arith, h .unrouted, room) };
+        known = s .known;
+        noted = λ h. omega arith;
+        counted = tt;
+      }
 
   -- the same records in the open file
-  step-current : (c : Current) → recordsIn c ≡ recordsOf x → Step x (withCurrent x c) 0 0 [] []
+  step-current : (c : Current) → recordsIn c ≡ recordsOf x → Step x (withCurrent x c) 0 0 0 [] []
   step-current c e = let s = stays x in
       record {
         settings = refl;
@@ -96,25 +166,38 @@ module _ (x : Line) where
         lost = s .lost;
         closed = s .closed;
         records = ap (λ (rs : List Record). flat (x .closed) ++ rs) e ∙ s .records;
+        small = same-small refl refl;
+        known = s .known;
+        noted = s .noted;
+        counted = tt;
       }
 
-  step-open : (t : ℕ) → recordsOf x ≡ [] → Step x (openLine x t) 0 0 [] []
+  step-open : (t : ℕ) → recordsOf x ≡ [] → Step x (openLine x t) 0 0 0 [] []
   step-open t e = let s = step-current (some (record { sequence = x .next; opened = t; appended = t; records = [] })) (sym e) in
-      record { settings = refl; received = s .received; lost = s .lost; closed = s .closed; records = s .records }
+      record { settings = refl; received = s .received; lost = s .lost; closed = s .closed; records = s .records; small = same-small refl refl; known = s .known; noted = s .noted; counted = tt }
 
-  step-close : (file : File) → file .records ≡ recordsOf x → Step x (closeLine x file) 0 0 (file ∷ []) []
-  step-close file e = let s = stays x in
-      record {
-        settings = refl;
-        received = s .received;
-        lost = s .lost;
-        closed = refl;
-        records =
-            ap (λ (rs : List Record). rs ++ []) (flat-append (x .closed) (file ∷ []))
-            ∙ ap (λ (rs : List Record). (flat (x .closed) ++ rs) ++ []) (append-nil (file .records) ∙ e);
-      }
+  -- a closing moves the counts into the file, and the line's begin again
+  module _ (file : File) (e : file .records ≡ recordsOf x) (p : file .private ≡ countOctets (x .losses) (x .unrouted)) where
+    read-again : Small x → countsIn (file .private) ≡ record { there = true; losses = x .losses; unrouted = x .unrouted }
+    read-again h = ap countsIn p ∙ counts-back (x .losses) (x .unrouted) (h .losses) (h .unrouted)
 
-  step-append : (f : OpenFile) (r : Record) (t : ℕ) → Step (withCurrent x (some f)) (withCurrent x (some (appendTo f r t))) 0 0 [] (r ∷ [])
+    step-close : Step x (closeLine x file) 0 0 0 (file ∷ []) []
+    step-close = let s = stays x in
+        record {
+          settings = refl;
+          received = s .received;
+          lost = s .lost;
+          closed = refl;
+          records =
+              ap (λ (rs : List Record). rs ++ []) (flat-append (x .closed) (file ∷ []))
+              ∙ ap (λ (rs : List Record). (flat (x .closed) ++ rs) ++ []) (append-nil (file .records) ∙ e);
+          small = λ h. record { losses = omega arith; unrouted = omega arith };
+          known = λ h. omega (arith, known-append (x .closed) (file ∷ []), ap (λ (c : LossCounts). c .losses) (read-again h));
+          noted = λ h. omega (arith, noted-append (x .closed) (file ∷ []), ap (λ (c : LossCounts). c .unrouted) (read-again h));
+          counted = (ap (λ (l : List ℕ). countsIn l .there) p ∙ counts-there (x .losses) (x .unrouted), tt);
+        }
+
+  step-append : (f : OpenFile) (r : Record) (t : ℕ) → Step (withCurrent x (some f)) (withCurrent x (some (appendTo f r t))) 0 0 0 [] (r ∷ [])
   step-append f r t = let s = stays x in
       record {
         settings = refl;
@@ -122,6 +205,10 @@ module _ (x : Line) where
         lost = s .lost;
         closed = s .closed;
         records = sym (append-assoc (flat (x .closed)) (f .records) (r ∷ []));
+        small = λ h. record { losses = h .losses; unrouted = h .unrouted };
+        known = λ h. omega arith;
+        noted = λ h. omega arith;
+        counted = tt;
       }
 
 -- A. Settings, address and bias are the same.
@@ -251,7 +338,7 @@ pub record Touched (l : Ledger) (k t : ℕ) (e : Entry) (r s : ℕ) (ps : List R
   pub line : Line
   pub files : List File
   pub entry : e ≡ changed l k t line files
-  pub step : Step (lineAt l k) line r s files ps
+  pub step : Step (lineAt l k) line r s 0 files ps
 
 module _ {l : Ledger} {k t r s : ℕ} {e : Entry} {ps : List Record} (h : Touched l k t e r s ps) where
   touched-same : Same l (e .ledger)
@@ -267,20 +354,20 @@ module _ {l : Ledger} {k t r s : ℕ} {e : Entry} {ps : List Record} (h : Touche
       subst (λ (x : Entry). AllBelow (length (l .lines)) (x .closings)) (sym (h .entry)) (tagged-below (length (l .lines)) k (h .files) low)
 
   touched-line : (i : ℕ) → i < length (l .lines) → (b : Bool) → eqb k i ≡ b
-      → Step (lineAt l i) (lineAt (changed l k t (h .line) (h .files) .ledger) i) (cond b r 0) (cond b s 0) (onRoute i (tagged k (h .files))) (cond b ps [])
+      → Step (lineAt l i) (lineAt (changed l k t (h .line) (h .files) .ledger) i) (cond b r 0) (cond b s 0) 0 (onRoute i (tagged k (h .files))) (cond b ps [])
   touched-line i low true q =
       let k≡i = eqb-true k i q in
       let own : k < length (l .lines) = omega arith in
-      subst (λ (j : ℕ). Step (lineAt l j) (lineAt (changed l k t (h .line) (h .files) .ledger) j) r s (onRoute j (tagged k (h .files))) ps) k≡i
+      subst (λ (j : ℕ). Step (lineAt l j) (lineAt (changed l k t (h .line) (h .files) .ledger) j) r s 0 (onRoute j (tagged k (h .files))) ps) k≡i
       (rw (getD-set-same (l .lines) k (h .line) noLine own, on-own k (h .files)) (h .step))
   touched-line i low false q =
       let other = eqb-false k i q in
       rw (getD-set-other (l .lines) k i (h .line) noLine (λ z. other (sym z)), on-other k i other (h .files)) (stays (lineAt l i))
 
   touched-at : (i : ℕ) → i < length (l .lines)
-      → Step (lineAt l i) (lineAt (e .ledger) i) (cond (eqb k i) r 0) (cond (eqb k i) s 0) (onRoute i (e .closings)) (cond (eqb k i) ps [])
+      → Step (lineAt l i) (lineAt (e .ledger) i) (cond (eqb k i) r 0) (cond (eqb k i) s 0) 0 (onRoute i (e .closings)) (cond (eqb k i) ps [])
   touched-at i low =
-      subst (λ (x : Entry). Step (lineAt l i) (lineAt (x .ledger) i) (cond (eqb k i) r 0) (cond (eqb k i) s 0) (onRoute i (x .closings)) (cond (eqb k i) ps []))
+      subst (λ (x : Entry). Step (lineAt l i) (lineAt (x .ledger) i) (cond (eqb k i) r 0) (cond (eqb k i) s 0) 0 (onRoute i (x .closings)) (cond (eqb k i) ps []))
       (sym (h .entry)) (touched-line i low (eqb k i) refl)
 
 touched-cond : {l : Ledger} {k t r s : ℕ} {ps : List Record} (b : Bool) (e f : Entry) → Touched l k t e r s ps → Touched l k t f r s ps
@@ -309,14 +396,14 @@ close-touches l t k reason f e =
       line = closeLine (lineAt l k) (fileFrom l (lineAt l k) f reason);
       files = fileFrom l (lineAt l k) f reason ∷ [];
       entry = refl;
-      step = step-close (lineAt l k) (fileFrom l (lineAt l k) f reason) (sym (ap recordsIn e));
+      step = step-close (lineAt l k) (fileFrom l (lineAt l k) f reason) (sym (ap recordsIn e)) refl;
     }
 
 -- RECEIVE: the line with an open file for the record
 pub record Readied (x : Line) (k : ℕ) (y : Ready) : Type 0 where
   pub files : List File
   pub closings : y .closings ≡ tagged k files
-  pub step : Step x (withCurrent (y .line) (some (y .file))) 1 0 files []
+  pub step : Step x (withCurrent (y .line) (some (y .file))) 1 0 0 files []
 
 readied-cond : {x : Line} {k : ℕ} (b : Bool) (y z : Ready) → Readied x k y → Readied x k z → Readied x k (cond b y z)
 readied-cond true y z p q = p
@@ -334,7 +421,7 @@ module _ (l : Ledger) (x : Line) (t k : ℕ) where
         files = file ∷ [];
         closings = refl;
         step =
-            behind (behind (step-received x) (step-close (receivedLine x) file (sym (ap recordsIn e))))
+            behind (behind (step-received x) (step-close (receivedLine x) file (sym (ap recordsIn e)) refl))
             (step-open (closeLine (receivedLine x) file) t refl);
       }
 
@@ -356,7 +443,7 @@ module _ (l : Ledger) (t k : ℕ) (r : Record) (y : Ready) (h : Readied (lineAt 
   abbrev filled : File
   filled = fileFrom l (y .line) (appendTo (y .file) r t) 3
 
-  grown : Step (lineAt l k) (withCurrent (y .line) (some (appendTo (y .file) r t))) 1 0 (h .files ++ []) (r ∷ [])
+  grown : Step (lineAt l k) (withCurrent (y .line) (some (appendTo (y .file) r t))) 1 0 0 (h .files ++ []) (r ∷ [])
   grown = behind (h .step) (step-append (y .line) (y .file) r t)
 
   append-full : Touched l k t
@@ -376,7 +463,7 @@ module _ (l : Ledger) (t k : ℕ) (r : Record) (y : Ready) (h : Readied (lineAt 
                   (ap (λ (cs : List Closing). cs ++ (record { route = k; file = filled } ∷ [])) (h .closings ∙ sym (ap (tagged k) (append-nil (h .files))))
                   ∙ sym (tagged-append k (h .files ++ []) (filled ∷ []))) i;
             };
-        step = behind grown (step-close (withCurrent (y .line) (some (appendTo (y .file) r t))) filled refl);
+        step = behind grown (step-close (withCurrent (y .line) (some (appendTo (y .file) r t))) filled refl refl);
       }
 
   append-on : Touched l k t
@@ -402,8 +489,8 @@ place-touches l t k r =
     appended l t k r (readyBy l (receivedLine (lineAt l k)) t k r (lineAt l k .current))
     (readied l (lineAt l k) t k r (lineAt l k .current) refl)
 
-lose-touches : (l : Ledger) (t k : ℕ) → Touched l k t (loses l t k) 1 1 []
-lose-touches l t k = record { line = lostLine (lineAt l k); files = []; entry = refl; step = step-lost (lineAt l k) }
+lose-touches : (l : Ledger) (t k : ℕ) → (lineAt l k .losses ≡ 4294967295 → ⊥) → Touched l k t (loses l t k) 1 1 []
+lose-touches l t k room = record { line = lostLine (lineAt l k); files = []; entry = refl; step = step-lost (lineAt l k) room }
 
 -- TICK, over the routes below n
 pub record Ticked (l : Ledger) (n : ℕ) (e : Entry) : Type 0 where
@@ -412,7 +499,7 @@ pub record Ticked (l : Ledger) (n : ℕ) (e : Entry) : Type 0 where
   pub below : AllBelow n (e .closings)
   pub later : (i : ℕ) → n ≤ i → lineAt (e .ledger) i ≡ lineAt l i
   pub quiet : (i : ℕ) → n ≤ i → onRoute i (e .closings) ≡ []
-  pub line : (i : ℕ) → i < length (l .lines) → Step (lineAt l i) (lineAt (e .ledger) i) 0 0 (onRoute i (e .closings)) []
+  pub line : (i : ℕ) → i < length (l .lines) → Step (lineAt l i) (lineAt (e .ledger) i) 0 0 0 (onRoute i (e .closings)) []
 
 module _ (l : Ledger) (t n : ℕ) (e : Entry) (h : Ticked l n e) where
   ticked-on : Ticked l (suc n) e
@@ -451,12 +538,12 @@ module _ (l : Ledger) (t n : ℕ) (e : Entry) (h : Ticked l n e) where
         ∙ (λ j. h .quiet n (omega arith) j ++ on-own n (due ∷ []) j)
 
     on-step : (i : ℕ) → i < length (l .lines) → (b : Bool) → eqb n i ≡ b
-        → Step (lineAt l i) (lineAt (on .ledger) i) 0 0 (onRoute i (on .closings)) []
+        → Step (lineAt l i) (lineAt (on .ledger) i) 0 0 0 (onRoute i (on .closings)) []
     on-step i low true z =
         let n≡i = eqb-true n i z in
         let own : n < length (e .ledger .lines) = omega (arith, same-length (h .same)) in
-        subst (λ (j : ℕ). Step (lineAt l j) (lineAt (on .ledger) j) 0 0 (onRoute j (on .closings)) []) n≡i
-        (rw (getD-set-same (e .ledger .lines) n over noLine own, on-at) (step-close (lineAt l n) due (sym (ap recordsIn q))))
+        subst (λ (j : ℕ). Step (lineAt l j) (lineAt (on .ledger) j) 0 0 0 (onRoute j (on .closings)) []) n≡i
+        (rw (getD-set-same (e .ledger .lines) n over noLine own, on-at) (step-close (lineAt l n) due (sym (ap recordsIn q)) refl))
     on-step i low false z =
         let other = eqb-false n i z in
         rw (on-line i other, on-quiet i other) (h .line i low)
@@ -501,7 +588,7 @@ ticked l t zero =
     }
 ticked l t (suc n) = ticked-step l t n (tickTo l t n) (ticked l t n) (lineAt l n .current) refl
 
--- an unrouted record notes every line
+-- an unrouted record is counted on every line
 noted-settings : (xs : List Line) → map settingsIn (notedLines xs) ≡ map settingsIn xs
 noted-settings [] = refl
 noted-settings (x ∷ xs) = ap (λ (ss : List RouteSettings). x .settings ∷ ss) (noted-settings xs)
@@ -510,6 +597,16 @@ noted-at : (xs : List Line) (i : ℕ) → i < length xs → getD (notedLines xs)
 noted-at [] i low = let z : ⊥ = omega arith in absurd z
 noted-at (x ∷ xs) zero low = refl
 noted-at (x ∷ xs) (suc i) low = noted-at xs i (omega arith)
+
+-- where none of them is full
+pub can-note : (xs : List Line) (i : ℕ) → i < length xs → anyFull xs ≡ false → getD xs i noLine .unrouted ≡ 4294967295 → ⊥
+can-note [] i low e f = absurd (omega arith)
+can-note (x ∷ xs) zero low e f = true≢false (sym (eq-eqb (x .unrouted) 4294967295 f) ∙ or-false (eqb (x .unrouted) 4294967295) (anyFull xs) e .0)
+can-note (x ∷ xs) (suc i) low e f = can-note xs i (omega arith) (or-false (eqb (x .unrouted) 4294967295) (anyFull xs) e .1) f
+
+pub none-full : (xs : List Line) → ((i : ℕ) → i < length xs → getD xs i noLine .unrouted ≡ 4294967295 → ⊥) → anyFull xs ≡ false
+none-full [] h = refl
+none-full (x ∷ xs) h = λ j. ne-eqb (x .unrouted) 4294967295 (h 0 (omega arith)) j || none-full xs (λ i low. h (suc i) (omega arith)) j
 
 -- C. One event: what it adds, of what the list itself says.
 pub record Moved (l : Ledger) (e : Event) (b : Booked) : Type 0 where
@@ -520,6 +617,7 @@ pub record Moved (l : Ledger) (e : Event) (b : Booked) : Type 0 where
       → Step (lineAt l i) (lineAt (b .entry .ledger) i)
       (one (receivedOn l i e (b .answer)))
       (one (receivedOn l i e (b .answer) && lostRule l i e))
+      (one (unroutedBy l e (b .answer)))
       (onRoute i (b .entry .closings))
       (placedIf (receivedOn l i e (b .answer) && not (lostRule l i e)) e)
 
@@ -546,16 +644,16 @@ module _ (l : Ledger) where
         same = same-self l;
         unrouted = rw (refused-unrouted l n e a h) (omega arith);
         below = tt;
-        line = λ i low. rw (refused-received l i n e a h) (stays (lineAt l i));
+        line = λ i low. rw (refused-received l i n e a h, refused-unrouted l n e a h) (stays (lineAt l i));
       }
 
   -- one line changed by an event that receives nothing
   quiet-line : {k t : ℕ} {e : Entry} → Touched l k t e 0 0 [] → (i : ℕ) → i < length (l .lines)
-      → Step (lineAt l i) (lineAt (e .ledger) i) 0 0 (onRoute i (e .closings)) []
+      → Step (lineAt l i) (lineAt (e .ledger) i) 0 0 0 (onRoute i (e .closings)) []
   quiet-line {k} {t} {e} h i low = go (eqb k i) (touched-at h i low)
     where
-      go : (b : Bool) → Step (lineAt l i) (lineAt (e .ledger) i) (cond b 0 0) (cond b 0 0) (onRoute i (e .closings)) (cond b [] [])
-          → Step (lineAt l i) (lineAt (e .ledger) i) 0 0 (onRoute i (e .closings)) []
+      go : (b : Bool) → Step (lineAt l i) (lineAt (e .ledger) i) (cond b 0 0) (cond b 0 0) 0 (onRoute i (e .closings)) (cond b [] [])
+          → Step (lineAt l i) (lineAt (e .ledger) i) 0 0 0 (onRoute i (e .closings)) []
       go true s = s
       go false s = s
 
@@ -600,10 +698,16 @@ module _ (l : Ledger) where
     received-none : to .found ≡ false → (i : ℕ) → receivedOn l i event a ≡ false
     received-none f i = λ j. eqb (fine j) 0 && f j && eqb (to .at) i
 
+    unrouted-found : to .found ≡ true → unroutedBy l event a ≡ false
+    unrouted-found f = λ j. eqb (fine j) 0 && not (f j)
+
+    unrouted-none : to .found ≡ false → unroutedBy l event a ≡ true
+    unrouted-none f = λ j. eqb (fine j) 0 && not (f j)
+
     -- on the line itself, lost or placed
     kinds : (i : ℕ) (c : Bool) → lostThere ≡ c → (e : Entry) (b : Bool) → eqb (to .at) i ≡ b
-        → Step (lineAt l i) (lineAt (e .ledger) i) (cond b 1 0) (cond b (one c) 0) (onRoute i (e .closings)) (cond b (placedIf (not c) event) [])
-        → Step (lineAt l i) (lineAt (e .ledger) i) (one b) (one (b && lostRule l i event)) (onRoute i (e .closings)) (placedIf (b && not (lostRule l i event)) event)
+        → Step (lineAt l i) (lineAt (e .ledger) i) (cond b 1 0) (cond b (one c) 0) 0 (onRoute i (e .closings)) (cond b (placedIf (not c) event) [])
+        → Step (lineAt l i) (lineAt (e .ledger) i) (one b) (one (b && lostRule l i event)) 0 (onRoute i (e .closings)) (placedIf (b && not (lostRule l i event)) event)
     kinds i c q e true z s =
         let same : lostRule l i event ≡ c = ap (λ (j : ℕ). lostBy (lineAt l j .settings) x (length body)) (sym (eqb-true (to .at) i z)) ∙ q in
         rw same s
@@ -613,33 +717,43 @@ module _ (l : Ledger) where
     found-moves f c q e h =
         record {
           same = touched-same h;
-          unrouted =
-              let none : unroutedBy l event a ≡ false = λ j. eqb (fine j) 0 && not (f j) in
-              rw none (omega (arith, touched-unrouted h));
+          unrouted = rw (unrouted-found f) (omega (arith, touched-unrouted h));
           below = touched-below h (routed-below l key x f);
-          line = λ i low. rw (received-found f i) (kinds i c q e (eqb (to .at) i) refl (touched-at h i low));
+          line = λ i low. rw (received-found f i, unrouted-found f) (kinds i c q e (eqb (to .at) i) refl (touched-at h i low));
         }
 
-    found-by : to .found ≡ true → (c : Bool) → lostThere ≡ c
-        → Received (cond c (loses l t (to .at)) (places l t (to .at) (recordOf x body)))
-    found-by f true q = found-moves f true q (loses l t (to .at)) (lose-touches l t (to .at))
-    found-by f false q = found-moves f false q (places l t (to .at) (recordOf x body)) (place-touches l t (to .at) (recordOf x body))
+    -- no counter that would rise is at its end
+    module _ (room : countersFull l x key (length body) ≡ false) where
+      losses-room : to .found ≡ true → lostThere ≡ true → lineAt l (to .at) .losses ≡ 4294967295 → ⊥
+      losses-room f q e =
+          let full : countersFull l x key (length body) ≡ true =
+          λ j. cond (f j) (q j && eq-eqb (lineAt l (to .at) .losses) 4294967295 e j) (eqb (l .unrouted) 4294967295 || anyFull (l .lines)) in
+          true≢false (sym full ∙ room)
 
-    none-moves : to .found ≡ false → Received (unroutes l t)
-    none-moves f =
-        record {
-          same = record { address = refl; bias = refl; settings = noted-settings (l .lines) };
-          unrouted =
-              let listed : unroutedBy l event a ≡ true = λ j. eqb (fine j) 0 && not (f j) in
-              rw listed refl;
-          below = tt;
-          line = λ i low. rw (received-none f i, noted-at (l .lines) i low) (step-noted (lineAt l i));
-        }
+      lines-room : to .found ≡ false → anyFull (l .lines) ≡ false
+      lines-room f =
+          let r : (eqb (l .unrouted) 4294967295 || anyFull (l .lines)) ≡ false =
+          sym (λ j. cond (f j) (lostThere && eqb (lineAt l (to .at) .losses) 4294967295) (eqb (l .unrouted) 4294967295 || anyFull (l .lines))) ∙ room in
+          or-false (eqb (l .unrouted) 4294967295) (anyFull (l .lines)) r .1
 
-    receive-by : (b : Bool) → to .found ≡ b
-        → Received (cond b (cond lostThere (loses l t (to .at)) (places l t (to .at) (recordOf x body))) (unroutes l t))
-    receive-by true f = found-by f lostThere refl
-    receive-by false f = none-moves f
+      found-by : to .found ≡ true → (c : Bool) → lostThere ≡ c
+          → Received (cond c (loses l t (to .at)) (places l t (to .at) (recordOf x body)))
+      found-by f true q = found-moves f true q (loses l t (to .at)) (lose-touches l t (to .at) (losses-room f q))
+      found-by f false q = found-moves f false q (places l t (to .at) (recordOf x body)) (place-touches l t (to .at) (recordOf x body))
+
+      none-moves : to .found ≡ false → Received (unroutes l t)
+      none-moves f =
+          record {
+            same = record { address = refl; bias = refl; settings = noted-settings (l .lines) };
+            unrouted = rw (unrouted-none f) refl;
+            below = tt;
+            line = λ i low. rw (received-none f i, unrouted-none f, noted-at (l .lines) i low) (step-noted (lineAt l i) (can-note (l .lines) i low (lines-room f)));
+          }
+
+      receive-by : (b : Bool) → to .found ≡ b
+          → Received (cond b (cond lostThere (loses l t (to .at)) (places l t (to .at) (recordOf x body))) (unroutes l t))
+      receive-by true f = found-by f lostThere refl
+      receive-by false f = none-moves f
 
   -- an accepted OPEN finds no file open
   open-finds : (n k time i : ℕ) → refusal l n k (OPEN time i) ≡ 0 → isOpen (lineAt l i .current) ≡ false
@@ -665,12 +779,24 @@ module _ (l : Ledger) where
       let p4 = passed 3 (ltb 52595999 time) r6 (p16 .1) in
       leb-false (length (l .lines)) i (passed 5 (leb (length (l .lines)) i) r7 (p4 .1) .0)
 
+  -- an accepted RECEIVE finds no counter at its end that it raises
+  receive-finds : (n k time : ℕ) (a : Arrival) (key body : List ℕ) → refusal l n k (RECEIVE time a key body) ≡ 0 → countersFull l a key (length body) ≡ false
+  receive-finds n k time a key body e =
+      let last = (17 when ltb k (neededBy l (RECEIVE time a key body))) ∷ [] in
+      let r19 = (19 when countersFull l a key (length body)) ∷ last in
+      let r5 = (5 when not (fitsMark (a .mark) a (length key))) ∷ r19 in
+      let r4 = (4 when ltb 52595999 time) ∷ r5 in
+      let p16 = passed 15 (ltb n (regions (l .lines))) r4 e in
+      let p4 = passed 3 (ltb 52595999 time) r5 (p16 .1) in
+      let p5 = passed 4 (not (fitsMark (a .mark) a (length key))) r19 (p4 .1) in
+      passed 18 (countersFull l a key (length body)) last (p5 .1) .0
+
   carried-moves : (n k : ℕ) (e : Event) → refusal l n k e ≡ 0 → Moved l e (record { answer = answerBy zero l e; entry = entryBy zero l e })
   carried-moves n k (OPEN time i) z = open-moves _ (effective l (OPEN time i)) time i (open-finds n k time i z)
   carried-moves n k (CLOSE time i reason) z = close-moves _ (effective l (CLOSE time i reason)) time i reason (close-finds n k time i reason z) (lineAt l i .current) refl
   carried-moves n k (TICK time) z = tick-moves _ (effective l (TICK time)) time
   carried-moves n k (RECEIVE time x key body) z =
-      receive-by (answerBy zero l (RECEIVE time x key body)) refl time (effective l (RECEIVE time x key body)) x key body (routedTo l x key .found) refl
+      receive-by (answerBy zero l (RECEIVE time x key body)) refl time (effective l (RECEIVE time x key body)) x key body (receive-finds n k time x key body z) (routedTo l x key .found) refl
 
   moves-by : (n k : ℕ) (e : Event) (r : ℕ) → refusal l n k e ≡ r → Moved l e (record { answer = answerBy r l e; entry = entryBy r l e })
   moves-by n k e zero z = carried-moves n k e z
@@ -829,7 +955,7 @@ pub record Ran (l m : Ledger) (es : List Lent) (bs : List Booked) : Type 0 where
   pub same : Same l m
   pub unrouted : m .unrouted ≡ l .unrouted + unroutedB l es bs
   pub line : (i : ℕ) → i < length (l .lines)
-      → Step (lineAt l i) (lineAt m i) (receivedB l i es bs) (lostB l i es bs) (closedOn i bs) (placedB l i es bs)
+      → Step (lineAt l i) (lineAt m i) (receivedB l i es bs) (lostB l i es bs) (unroutedB l es bs) (closedOn i bs) (placedB l i es bs)
 
 ran-more : (l m : Ledger) (e : Lent) (b : Booked) (es : List Lent) (bs : List Booked) → Moved l (e .event) b → Ran (b .entry .ledger) m es bs
     → Ran l m (e ∷ es) (b ∷ bs)
@@ -839,10 +965,8 @@ ran-more l m e b es bs p q =
       unrouted = omega (arith, p .unrouted, q .unrouted, same-unroutedB (p .same) es bs);
       line = λ i low.
           behind (p .line i low)
-          (subst (λ (n : ℕ). Step (lineAt (b .entry .ledger) i) (lineAt m i) n (lostB l i es bs) (closedOn i bs) (placedB l i es bs)) (same-receivedB (p .same) i es bs)
-          (subst (λ (n : ℕ). Step (lineAt (b .entry .ledger) i) (lineAt m i) (receivedB (b .entry .ledger) i es bs) n (closedOn i bs) (placedB l i es bs)) (same-lostB (p .same) i es bs)
-          (subst (λ (rs : List Record). Step (lineAt (b .entry .ledger) i) (lineAt m i) (receivedB (b .entry .ledger) i es bs) (lostB (b .entry .ledger) i es bs) (closedOn i bs) rs) (same-placedB (p .same) i es bs)
-          (q .line i (omega (arith, same-length (p .same)))))));
+          (transport (λ j. Step (lineAt (b .entry .ledger) i) (lineAt m i) (same-receivedB (p .same) i es bs j) (same-lostB (p .same) i es bs j) (same-unroutedB (p .same) es bs j) (closedOn i bs) (same-placedB (p .same) i es bs j))
+          (q .line i (omega (arith, same-length (p .same)))));
     }
 
 pub ran : (l : Ledger) (n : ℕ) (es : List Lent) → Ran l (ledgerAfter l n es) es (booksOf l n es)
@@ -872,12 +996,15 @@ module _ (l : Ledger) (n : ℕ) (es : List Lent) where
         ≡ (flat (lineAt l i .closed) ++ recordsOf (lineAt l i)) ++ placedB l i es (booksOf l n es)
     after-records = ran l n es .line i low .records
 
+    pub after-counted : Counted (closedOn i (booksOf l n es))
+    after-counted = ran l n es .line i low .counted
+
 -- E. The balance of a line.
 abbrev pub Balanced : Line → Type 0
 Balanced x = x .received ≡ held (x .closed) + length (recordsOf x) + x .lost
 
-pub step-balanced : {x y : Line} {r s : ℕ} {cs : List File} {ps : List Record} → Step x y r s cs ps → r ≡ length ps + s → Balanced x → Balanced y
-step-balanced {x} {y} {r} {s} {cs} {ps} h w b =
+pub step-balanced : {x y : Line} {r s u : ℕ} {cs : List File} {ps : List Record} → Step x y r s u cs ps → r ≡ length ps + s → Balanced x → Balanced y
+step-balanced {x} {y} {r} {s} {u} {cs} {ps} h w b =
     let more = ap length (h .records) in
     omega (arith, h .received, h .lost, more, length-append (flat (y .closed)) (recordsOf y), length-append (flat (x .closed) ++ recordsOf x) ps, length-append (flat (x .closed)) (recordsOf x), held-flat (x .closed), held-flat (y .closed))
 
@@ -909,6 +1036,8 @@ after-balanced l n (e ∷ es) i low b =
 pub record Fresh (x : Line) : Type 0 where
   pub received : x .received ≡ 0
   pub lost : x .lost ≡ 0
+  pub losses : x .losses ≡ 0
+  pub unrouted : x .unrouted ≡ 0
   pub closed : x .closed ≡ []
   pub current : x .current ≡ none
 
@@ -918,13 +1047,13 @@ module _ (xs : List ℕ) where
   lines-length (suc n) = length-append (linesFrom xs n) (lineFrom xs (routeStart n) ∷ []) ∙ omega (arith, lines-length n)
 
   fresh-more : (k : ℕ) (ls : List Line) → ((i : ℕ) → Fresh (getD ls i noLine)) → (i : ℕ) → Fresh (getD (ls ++ (lineFrom xs k ∷ [])) i noLine)
-  fresh-more k [] h zero = record { received = refl; lost = refl; closed = refl; current = refl }
-  fresh-more k [] h (suc i) = record { received = refl; lost = refl; closed = refl; current = refl }
+  fresh-more k [] h zero = record { received = refl; lost = refl; losses = refl; unrouted = refl; closed = refl; current = refl }
+  fresh-more k [] h (suc i) = record { received = refl; lost = refl; losses = refl; unrouted = refl; closed = refl; current = refl }
   fresh-more k (x ∷ ls) h zero = h zero
   fresh-more k (x ∷ ls) h (suc i) = fresh-more k ls (λ j. h (suc j)) i
 
   fresh-lines : (n i : ℕ) → Fresh (getD (linesFrom xs n) i noLine)
-  fresh-lines zero i = record { received = refl; lost = refl; closed = refl; current = refl }
+  fresh-lines zero i = record { received = refl; lost = refl; losses = refl; unrouted = refl; closed = refl; current = refl }
   fresh-lines (suc n) i = fresh-more (routeStart n) (linesFrom xs n) (fresh-lines n) i
 
   pub fresh-length : length (ledgerFrom xs .lines) ≡ routesIn xs
@@ -962,6 +1091,25 @@ module _ (xs : List ℕ) (n : ℕ) (es : List Lent) where
         sym (ap (λ (fs : List File). flat fs ++ recordsOf (lineAt (ledgerAfter (ledgerFrom xs) n es) i)) fresh-closed)
         ∙ after-records (ledgerFrom xs) n es i inside
         ∙ (λ j. (flat (fresh-line xs i .closed j) ++ recordsIn (fresh-line xs i .current j)) ++ placedB (ledgerFrom xs) i es (booksOf (ledgerFrom xs) n es))
+
+    -- the loss counts: those in the closed files and the pending ones are the lost and the unrouted records
+    fresh-small : Small (lineAt (ledgerFrom xs) i)
+    fresh-small = record { losses = omega (arith, fresh-line xs i .losses); unrouted = omega (arith, fresh-line xs i .unrouted) }
+
+    pub fresh-known : known (closedOn i (booksOf (ledgerFrom xs) n es)) + lineAt (ledgerAfter (ledgerFrom xs) n es) i .losses
+        ≡ lostB (ledgerFrom xs) i es (booksOf (ledgerFrom xs) n es)
+    fresh-known =
+        let k = ran (ledgerFrom xs) n es .line i inside .known fresh-small in
+        omega (arith, k, ap known fresh-closed, ap known (fresh-line xs i .closed), fresh-line xs i .losses)
+
+    pub fresh-noted : noted (closedOn i (booksOf (ledgerFrom xs) n es)) + lineAt (ledgerAfter (ledgerFrom xs) n es) i .unrouted
+        ≡ unroutedB (ledgerFrom xs) es (booksOf (ledgerFrom xs) n es)
+    fresh-noted =
+        let k = ran (ledgerFrom xs) n es .line i inside .noted fresh-small in
+        omega (arith, k, ap noted fresh-closed, ap noted (fresh-line xs i .closed), fresh-line xs i .unrouted)
+
+    pub fresh-counted : Counted (closedOn i (booksOf (ledgerFrom xs) n es))
+    fresh-counted = after-counted (ledgerFrom xs) n es i inside
 
     pub fresh-balanced : Balanced (lineAt (ledgerAfter (ledgerFrom xs) n es) i)
     fresh-balanced = after-balanced (ledgerFrom xs) n es i inside (fresh-balance xs (fresh-line xs i))

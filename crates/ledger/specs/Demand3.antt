@@ -10,9 +10,12 @@
 -- records received, counted in the list by the routing rule, are those in its closed files, as the reader counts them, those
 -- in its open file, as the state counts them, and those lost, counted in the list by the loss rule. The other received
 -- records stand in its closed files in order of closing and then in the open file's part of the store, in order of receipt,
--- octet for octet. Every closed file is accepted by the reader, with the fields and records that the ledger gives. Open
--- count, loss counters and unrouted counter in the state are the ledger's; its received and lost records are those counted in
--- the list, and the accepted unrouted records of the list number the unrouted counter.
+-- octet for octet. Every closed file is accepted by the reader, with the fields and records that the ledger gives, and its private
+-- octets are the loss counts of document 02, ask 3. For each route the known losses that the reader finds in those of its closed
+-- files, and those pending in the state, are its lost records, counted in the list by the loss rule; the unrouted records that it
+-- finds there, and the route's pending ones, are the unrouted records of the list. Open count, loss counters and unrouted counters
+-- in the state are the ledger's; its received and lost records are those counted in the list, and the accepted unrouted records of
+-- the list number the unrouted counter.
 --
 -- `loadedOf`, `openOn`, `closeOn`, `tickOn` and `receiveOn`, of which `leaves` and `runOf` are made, are the definitions that the
 -- contracts of the calls cite; `managerIn` says what words stand for. Assumes nothing.
@@ -28,6 +31,8 @@ use Rattle.octets.specs.Splice.{splice}
 use Rattle.record.specs.Record.{Record}
 use Rattle.record.specs.Walk.{records, walkOf}
 use Rattle.cdrfile.specs.File.{File, layout}
+use Rattle.counts.specs.declared.Counts.{Counts}
+use Rattle.counts.specs.Counts.{countsIn}
 use Rattle.reader.specs.Reader.{readOf}
 use Rattle.roundtrip.specs.Handed.{handedBack}
 use Rattle.state.specs.declared.Route.{Route}
@@ -138,6 +143,22 @@ abbrev pub AllAccepted : List File → Type 0
 AllAccepted [] = Unit {0}
 AllAccepted (f ∷ fs) = ((readOf (layout f) .refusal ≡ 0) × (handedBack (layout f) (readOf (layout f)) ≡ f)) × AllAccepted fs
 
+-- the loss counts in a file's private octets, as the reader hands them back
+abbrev pub countsRead : File → Counts
+countsRead f = countsIn (handedBack (layout f) (readOf (layout f)) .private)
+
+abbrev pub AllCounted : List File → Type 0
+AllCounted [] = Unit {0}
+AllCounted (f ∷ fs) = (countsRead f .there ≡ true) × AllCounted fs
+
+abbrev pub lossesIn : List File → ℕ
+lossesIn [] = 0
+lossesIn (f ∷ fs) = countsRead f .losses + lossesIn fs
+
+abbrev pub unroutedIn : List File → ℕ
+unroutedIn [] = 0
+unroutedIn (f ∷ fs) = countsRead f .unrouted + unroutedIn fs
+
 -- the files that close on a route, in order, over what the ledger booked
 abbrev pub onRoute : ℕ → List Closing → List File
 onRoute i [] = []
@@ -202,10 +223,17 @@ pub record Demand3 (words : List ℕ) (l : Ledger) (store : List ℕ) (es : List
       × (placed l i es (runOf words store es) ≡ walked (closedOn i (booksOf l (length store) es)) ++ rs)
   -- every closed file is accepted by the reader, with the fields the ledger gives
   pub accepted : (i : ℕ) → i < managerIn words .count → AllAccepted (closedOn i (booksOf l (length store) es))
+  -- each closed file has the loss counts; with those pending in the state they are the lost and the unrouted records
+  pub counts : (i : ℕ) → i < managerIn words .count → AllCounted (closedOn i (booksOf l (length store) es))
+  pub known-losses : (i : ℕ) → i < managerIn words .count
+      → lossesIn (closedOn i (booksOf l (length store) es)) + routeAt (behind words store es) i .losses ≡ lost l i es (runOf words store es)
+  pub unrouted-records : (i : ℕ) → i < managerIn words .count
+      → unroutedIn (closedOn i (booksOf l (length store) es)) + routeAt (behind words store es) i .unrouted ≡ unrouted l es (runOf words store es)
   -- the counters are the ledger's
   pub counters : (i : ℕ) → i < managerIn words .count
       → (openCount (routeAt (behind words store es) i) ≡ length (recordsOf (lineAt (ledgerAfter l (length store) es) i)))
       × (routeAt (behind words store es) i .losses ≡ lineAt (ledgerAfter l (length store) es) i .losses)
+      × (routeAt (behind words store es) i .unrouted ≡ lineAt (ledgerAfter l (length store) es) i .unrouted)
   -- and the ledger's own counts of received and lost records are those of the list
   pub booked : (i : ℕ) → i < managerIn words .count
       → (lineAt (ledgerAfter l (length store) es) i .received ≡ received l i es (runOf words store es))

@@ -9,7 +9,7 @@ use lib.Dec.{eqb, ltb, lit<}
 use lib.ListN.{length}
 use lib.Seq.{length-take-le}
 use borrow.Author.Tests.{ltb-true, ltb-false}
-use Rattle.octets.specs.Number.{Octets, octets-nil, octets-cons, octets-take}
+use Rattle.octets.specs.Number.{Octets, octets-cons, octets-take}
 use Rattle.timestamp.specs.LocalTime.{timestampOf, timestamp-right}
 use Rattle.record.specs.declared.Release.{Release}
 use Rattle.record.specs.Release.{NarrowRelease, rank}
@@ -18,6 +18,8 @@ use Rattle.record.specs.Order.{rank-small}
 use Rattle.cdrfile.specs.File.{fileOctets, layout}
 use Rattle.roundtrip.specs.Described.{Ordered, RightFile}
 use Rattle.cdrfile.specs.Laws.{file-length}
+use Rattle.counts.specs.Counts.{countOctets}
+use Rattle.counts.specs.Laws.{counts-octets}
 use Rattle.state.specs.declared.RouteSettings.{RouteSettings}
 use Rattle.state.specs.Manager.{Manager}
 use Rattle.state.specs.Manager.{routeAt, filterOf, base}
@@ -123,8 +125,8 @@ size-is l x f reason twenty most =
     let s = x .settings in
     let body = recordsOctets (f .records) in
     let n : length (filterOf s) ≡ s .octets = length-take-le (s .octets) (s .filter) (omega arith) in
-    file-length (file .header) (filterOf s) [] body (length (f .records))
-    ∙ ap (λ (k : ℕ). k + length body) (header-size (file .header) (filterOf s))
+    file-length (file .header) (filterOf s) (countOctets (x .losses) (x .unrouted)) body (length (f .records))
+    ∙ ap (λ (k : ℕ). k + length body) (header-size (file .header) (filterOf s) (x .losses) (x .unrouted))
     ∙ ap (λ (k : ℕ). headerSize k (file .header .high) (file .header .low) + length body) n
 
 -- A closing writes the ledger's file.
@@ -145,7 +147,7 @@ module _ (m : Manager) (store : List ℕ) (i reason : ℕ) (l : Ledger) (x : Lin
       let appended = o .appended in
       let sequence = o .sequence in
       let losses = a .losses in
-      let note = a .note in
+      let unrouted = a .unrouted in
       let settings = a .settings in
       let stands = o .stands in
       let count = o .count in
@@ -158,10 +160,10 @@ module _ (m : Manager) (store : List ℕ) (i reason : ℕ) (l : Ledger) (x : Lin
         sequence = sequence j;
         reason = reason;
         address = 0xFF ∷ 0xFF ∷ 0xFF ∷ 0xFF ∷ address j;
-        lost = indicator (losses j) (note j);
+        lost = indicator (losses j) (ltb 0 (unrouted j));
       })
       (filterOf (settings j))
-      []
+      (countOctets (losses j) (unrouted j))
       (stands j)
       (count j)
 
@@ -217,9 +219,9 @@ module _ (l : Ledger) (x : Line) (f : OpenFile) (reason : ℕ) (h : Fileable l x
         sequence = h .sequence;
         reason = h .reason;
         address = (omega (arith, h .address .0), octets-cons ff (octets-cons ff (octets-cons ff (octets-cons ff (h .address .1)))));
-        lost = indicator-small (x .losses) (x .note);
+        lost = indicator-small (x .losses) (ltb 0 (x .unrouted));
         filter = (omega (arith, n, h .most), octets-take (s .octets) (h .filter));
-        private = (omega arith, octets-nil);
+        private = (omega arith, counts-octets (x .losses) (x .unrouted));
         records = h .records;
         ordered = ordered-file (s .release) (f .records) (h .records);
         size = omega (arith, size-is l x f reason (h .twenty) (h .most), h .size);

@@ -40,7 +40,7 @@ module _ (xs : List ℕ) (o : Octets xs) (e : freshOf xs .refusal ≡ 0) where
         settings = refl;
         next = refl;
         losses = refl;
-        note = refl;
+        unrouted = refl;
         file = refl;
         held =
             record {

@@ -1,13 +1,14 @@
 -- The ledger (document 01, The ledger of demand 3). It is fed the settings, the store's length, and each event's arguments and
 -- output length: no answers, nothing of the manager's state, no octets of the store. Records are records and files are files:
 -- it holds the last time, the number of unrouted records and for each route how many records were received and lost (without
--- bound), the next sequence number, known losses and note since its last file closed, its closed files, and its open file if
+-- bound), the next sequence number, known losses and unrouted records since its last file closed, its closed files, and its open file if
 -- any. Opening, appending, closing, ages, sizes and every refusal are stated here anew, on records. Shared with the manager's
 -- definitions, and held apart from both: the places of the settings' octets (`settingsFrom`), the choice of a filter (`better`) and
 -- what a header carries of it (`filterOf`), the loss rule (`lost`), the indicator, the order and sameness of releases (`later`,
--- `earlier`, `sameRelease`), the record of an arrival (`recordOf`), the header's size (`headerSize`) and the layout, local time
+-- `earlier`, `sameRelease`), the record of an arrival (`recordOf`), the header's size (`headerSize`) and the layout, the octets of the
+-- loss counts (`countOctets`), local time
 -- (`timestampOf`), which refusal is the first (`first`), and the form of an answer (`answered`). Edge_table's Shared and EdgeTable
--- evaluate these; `header-size` (filing), `indicator-true` (state), `timestamp-right` (timestamp) and record's Order are laws of
+-- evaluate these; `header-size` (filing), `counts-back` (counts), `indicator-true` (state), `timestamp-right` (timestamp) and record's Order are laws of
 -- theirs. Assumes nothing.
 use mathlib.Core.Bool.{Bool, true, false, cond, not, _&&_, _||_}
 use mathlib.Core.List.{List, [], _∷_, _++_}
@@ -19,6 +20,7 @@ use Rattle.timestamp.specs.LocalTime.{timestampOf}
 use Rattle.record.specs.declared.Release.{Release}
 use Rattle.record.specs.Record.{Record, recordsOctets}
 use Rattle.cdrfile.specs.File.{File, layout}
+use Rattle.counts.specs.Counts.{countOctets}
 use Rattle.state.specs.declared.RouteSettings.{RouteSettings}
 use Rattle.state.specs.declared.Routed.{Routed}
 use Rattle.state.specs.Manager.{noRelease, filterOf}
@@ -51,7 +53,7 @@ pub record Line : Type 0 where
   pub lost : ℕ
   pub next : ℕ
   pub losses : ℕ
-  pub note : Bool
+  pub unrouted : ℕ
   pub closed : List File
   pub current : Current
 
@@ -70,7 +72,7 @@ noLine =
       lost = 0;
       next = 0;
       losses = 0;
-      note = false;
+      unrouted = 0;
       closed = [];
       current = none;
     }
@@ -114,10 +116,10 @@ fileFrom l x f reason =
             sequence = f .sequence;
             reason = reason;
             address = 0xFF ∷ 0xFF ∷ 0xFF ∷ 0xFF ∷ l .address;
-            lost = indicator (x .losses) (x .note);
+            lost = indicator (x .losses) (ltb 0 (x .unrouted));
           };
       filter = filterOf (x .settings);
-      private = [];
+      private = countOctets (x .losses) (x .unrouted);
       records = f .records;
     }
 
@@ -130,12 +132,12 @@ openLine x t =
       lost = x .lost;
       next = (x .next + 1) % 2 ^ 32;
       losses = x .losses;
-      note = x .note;
+      unrouted = x .unrouted;
       closed = x .closed;
       current = some (record { sequence = x .next; opened = t; appended = t; records = [] });
     }
 
--- the file is added to the closed ones, and the known losses and the note are cleared
+-- the file is added to the closed ones, and the known losses and the unrouted records of its time are cleared
 abbrev pub closeLine : Line → File → Line
 closeLine x file =
     record {
@@ -144,7 +146,7 @@ closeLine x file =
       lost = x .lost;
       next = x .next;
       losses = 0;
-      note = false;
+      unrouted = 0;
       closed = x .closed ++ (file ∷ []);
       current = none;
     }
@@ -157,7 +159,7 @@ withCurrent x c =
       lost = x .lost;
       next = x .next;
       losses = x .losses;
-      note = x .note;
+      unrouted = x .unrouted;
       closed = x .closed;
       current = c;
     }
@@ -170,7 +172,7 @@ receivedLine x =
       lost = x .lost;
       next = x .next;
       losses = x .losses;
-      note = x .note;
+      unrouted = x .unrouted;
       closed = x .closed;
       current = x .current;
     }
@@ -184,7 +186,7 @@ lostLine x =
       lost = x .lost + 1;
       next = x .next;
       losses = x .losses + 1;
-      note = x .note;
+      unrouted = x .unrouted;
       closed = x .closed;
       current = x .current;
     }
@@ -197,7 +199,7 @@ notedLine x =
       lost = x .lost;
       next = x .next;
       losses = x .losses;
-      note = true;
+      unrouted = x .unrouted + 1;
       closed = x .closed;
       current = x .current;
     }
@@ -386,11 +388,16 @@ abbrev pub regions : List Line → ℕ
 regions [] = 0
 regions (x ∷ xs) = x .settings .limit + regions xs
 
+-- 19: a counter at its end that would rise; an unrouted record raises that of the ledger and that of every route
+abbrev pub anyFull : List Line → Bool
+anyFull [] = false
+anyFull (x ∷ xs) = eqb (x .unrouted) 4294967295 || anyFull xs
+
 abbrev pub countersFull : Ledger → Arrival → List ℕ → ℕ → Bool
 countersFull l a key body =
     cond (routedTo l a key .found)
     (lostBy (lineAt l (routedTo l a key .at) .settings) a body && eqb (lineAt l (routedTo l a key .at) .losses) 4294967295)
-    (eqb (l .unrouted) 4294967295)
+    (eqb (l .unrouted) 4294967295 || anyFull (l .lines))
 
 -- 7: CLOSE may give the reasons 0, 4 and 128 to 131
 abbrev pub closingReasons : List ℕ

@@ -52,7 +52,7 @@ module _ {store : List ℕ} {b : ℕ} {r : Route} {x : Line} (a : AgreesLine sto
         settings = a .settings;
         next = ap (λ (n : ℕ). (n + 1) % 2 ^ 32) (a .next);
         losses = a .losses;
-        note = a .note;
+        unrouted = a .unrouted;
         file =
             record {
               live = refl;
@@ -74,17 +74,17 @@ module _ {store : List ℕ} {b : ℕ} {r : Route} {x : Line} (a : AgreesLine sto
 
   pub close-agrees : (file : File) → AgreesLine store b (closedRoute r) (closeLine x file)
   close-agrees file =
-      record { settings = a .settings; next = a .next; losses = refl; note = refl; file = refl; held = a .held; held-next = a .held-next }
+      record { settings = a .settings; next = a .next; losses = refl; unrouted = refl; file = refl; held = a .held; held-next = a .held-next }
 
   pub received-agrees : AgreesLine store b r (receivedLine x)
   received-agrees =
-      record { settings = a .settings; next = a .next; losses = a .losses; note = a .note; file = a .file; held = a .held; held-next = a .held-next }
+      record { settings = a .settings; next = a .next; losses = a .losses; unrouted = a .unrouted; file = a .file; held = a .held; held-next = a .held-next }
 
--- a file agrees whatever the route's losses and note
-file-kept : (store : List ℕ) (b : ℕ) (r : Route) (losses : ℕ) (note : Bool) (c : Current) → AgreesFile store b r c
-    → AgreesFile store b (record { settings = r .settings; next = r .next; losses = losses; note = note; «open» = r .«open»; file = r .file }) c
-file-kept store b r losses note none e = e
-file-kept store b r losses note (some f) o =
+-- a file agrees whatever the route's loss counters
+file-kept : (store : List ℕ) (b : ℕ) (r : Route) (losses unrouted : ℕ) (c : Current) → AgreesFile store b r c
+    → AgreesFile store b (record { settings = r .settings; next = r .next; losses = losses; unrouted = unrouted; «open» = r .«open»; file = r .file }) c
+file-kept store b r losses unrouted none e = e
+file-kept store b r losses unrouted (some f) o =
     record {
       live = o .live;
       sequence = o .sequence;
@@ -107,8 +107,8 @@ module _ {store : List ℕ} {b : ℕ} {r : Route} {x : Line} (a : AgreesLine sto
         settings = a .settings;
         next = a .next;
         losses = ap (λ (n : ℕ). n + 1) (a .losses);
-        note = a .note;
-        file = file-kept store b r (r .losses + 1) (r .note) (x .current) (a .file);
+        unrouted = a .unrouted;
+        file = file-kept store b r (r .losses + 1) (r .unrouted) (x .current) (a .file);
         held = a .held;
         held-next = a .held-next;
       }
@@ -119,8 +119,8 @@ module _ {store : List ℕ} {b : ℕ} {r : Route} {x : Line} (a : AgreesLine sto
         settings = a .settings;
         next = a .next;
         losses = a .losses;
-        note = refl;
-        file = file-kept store b r (r .losses) true (x .current) (a .file);
+        unrouted = ap (λ (n : ℕ). n + 1) (a .unrouted);
+        file = file-kept store b r (r .losses) (r .unrouted + 1) (x .current) (a .file);
         held = a .held;
         held-next = a .held-next;
       }
@@ -251,7 +251,7 @@ append-agrees a o h body t right fits format =
       settings = a .settings;
       next = a .next;
       losses = a .losses;
-      note = a .note;
+      unrouted = a .unrouted;
       file = append-open o h body t right fits format;
       held = a .held;
       held-next = a .held-next;

@@ -13,6 +13,7 @@ use Rattle.record.specs.Record.{Record, recordsOctets}
 use Rattle.record.specs.Walk.{records, walkOf, tallied, tallyOf}
 use Rattle.record.specs.Format.{walks}
 use Rattle.cdrfile.specs.File.{File, layout}
+use Rattle.counts.specs.Counts.{countsIn}
 use Rattle.roundtrip.specs.Described.{RightFile}
 use Rattle.reader.specs.declared.Contents.{Contents}
 use Rattle.reader.specs.Reader.{contentsOf, readOf}
@@ -30,7 +31,7 @@ use Rattle.ledger.specs.Event.{OPEN, CLOSE, TICK, RECEIVE, Lent}
 use Rattle.ledger.specs.Ledger.{Current, none, some, lineAt, recordsIn, recordsOf, Closing}
 use Rattle.ledger.specs.Run.{runOf, Booked, booksOf, endOf, storeAfter, ledgerAfter, ledgerFrom}
 use Rattle.ledger.specs.Agrees.{AgreesLine, AgreesFile}
-use Rattle.ledger.specs.Books.{flat, held, same-length, after-same, fresh-length, received-booked, lost-booked, unrouted-booked, placed-booked, fresh-received, fresh-lost, fresh-closed, fresh-records, fresh-sum, fresh-unrouted}
+use Rattle.ledger.specs.Books.{flat, held, known, noted, Counted, same-length, after-same, fresh-length, received-booked, lost-booked, unrouted-booked, placed-booked, fresh-received, fresh-lost, fresh-closed, fresh-records, fresh-known, fresh-noted, fresh-counted, fresh-sum, fresh-unrouted}
 use Rattle.ledger.specs.Steps.{AllRightFiles, open-holds}
 use Rattle.ledger.specs.StepClose.{close-holds}
 use Rattle.ledger.specs.StepTick.{tick-holds}
@@ -38,7 +39,7 @@ use Rattle.ledger.specs.StepReceive.{receive-holds}
 use Rattle.ledger.specs.Listed.{closed-below, lost-exactly}
 use Rattle.ledger.specs.Claim.{AllRightBooks, EventHolds, runs}
 use Rattle.ledger.specs.Fresh.{fresh-agrees}
-use Rattle.ledger.specs.Demand3.{AllGiven, counted, walked, AllAccepted, onRoute, closedOn, openCount, ClosedBelow, Demand3, Claim}
+use Rattle.ledger.specs.Demand3.{AllGiven, counted, walked, AllAccepted, AllCounted, lossesIn, unroutedIn, onRoute, closedOn, openCount, ClosedBelow, Demand3, Claim}
 
 -- A right file as the reader reads it.
 module _ (f : File) (r : RightFile f) where
@@ -69,6 +70,19 @@ all-walked (f ∷ fs) a = λ i. back-right f (a .0) i .records ++ all-walked fs 
 all-accepted : (fs : List File) → AllRight fs → AllAccepted fs
 all-accepted [] a = tt
 all-accepted (f ∷ fs) a = ((ap (λ (c : Contents). c .refusal) (read-right f (a .0)), back-right f (a .0)), all-accepted fs (a .1))
+
+-- what the reader finds in their private octets is what these say
+all-losses : (fs : List File) → AllRight fs → lossesIn fs ≡ known fs
+all-losses [] a = refl
+all-losses (f ∷ fs) a = λ i. countsIn (back-right f (a .0) i .private) .losses + all-losses fs (a .1) i
+
+all-unrouted : (fs : List File) → AllRight fs → unroutedIn fs ≡ noted fs
+all-unrouted [] a = refl
+all-unrouted (f ∷ fs) a = λ i. countsIn (back-right f (a .0) i .private) .unrouted + all-unrouted fs (a .1) i
+
+all-counts : (fs : List File) → AllRight fs → Counted fs → AllCounted fs
+all-counts [] a c = tt
+all-counts (f ∷ fs) a c = (ap (λ (g : File). countsIn (g .private) .there) (back-right f (a .0)) ∙ c .0, all-counts fs (a .1) (c .1))
 
 -- the files of a route are among those that closed
 on-right : (i : ℕ) (cs : List Closing) → AllRightFiles cs → AllRight (onRoute i cs)
@@ -135,7 +149,22 @@ from-fresh step xs store es o e g =
                 ∙ ap (λ (rs : List Record). rs ++ recordsOf (lineAt z i)) (sym (all-walked (closedOn i bs) (closed-right i bs (w .right)))),
           );
       accepted = λ i h. all-accepted (closedOn i bs) (closed-right i bs (w .right));
-      counters = λ i h. (count-same (storeAfter words store es) (base end i) (routeAt end i) (lineAt z i .current) (line i (at i h) .file), line i (at i h) .losses);
+      counts = λ i h. all-counts (closedOn i bs) (closed-right i bs (w .right)) (fresh-counted xs n es i (at i h));
+      known-losses =
+          λ i h.
+          (λ j. all-losses (closedOn i bs) (closed-right i bs (w .right)) j + line i (at i h) .losses j)
+          ∙ fresh-known xs n es i (at i h)
+          ∙ sym (lost-booked l es done bs (w .answered) i);
+      unrouted-records =
+          λ i h.
+          (λ j. all-unrouted (closedOn i bs) (closed-right i bs (w .right)) j + line i (at i h) .unrouted j)
+          ∙ fresh-noted xs n es i (at i h)
+          ∙ sym (unrouted-booked l es done bs (w .answered));
+      counters = λ i h. (
+        count-same (storeAfter words store es) (base end i) (routeAt end i) (lineAt z i .current) (line i (at i h) .file),
+        line i (at i h) .losses,
+        line i (at i h) .unrouted,
+      );
       booked = λ i h. (
         fresh-received xs n es i (at i h) ∙ sym (received-booked l es done bs (w .answered) i),
         fresh-lost xs n es i (at i h) ∙ sym (lost-booked l es done bs (w .answered) i),

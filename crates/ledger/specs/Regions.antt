@@ -112,7 +112,7 @@ module _ (store store′ : List ℕ) (start : ℕ) (r : Route) where
         settings = a .settings;
         next = a .next;
         losses = a .losses;
-        note = a .note;
+        unrouted = a .unrouted;
         file = file-moved (x .current) e (a .file);
         held = a .held;
         held-next = a .held-next;

@@ -1,7 +1,6 @@
 -- A list of events from a fresh manager, and from a fresh ledger fed the same (document 01, The ledger of demand 3). The
 -- manager's side is the fold of the very definitions that the contracts of the events cite, on the words that it is lent.
 -- Assumes nothing.
-use mathlib.Core.Bool.{false}
 use mathlib.Core.List.{List, [], _∷_, _++_}
 use Prim.Native.Nat.{ℕ, zero, suc, _+_}
 use lib.ListN.{length}
@@ -70,7 +69,7 @@ abbrev pub ledgerAfter : Ledger → ℕ → List Lent → Ledger
 ledgerAfter l store [] = l
 ledgerAfter l store (e ∷ es) = ledgerAfter (booked l store e .entry .ledger) store es
 
--- the ledger of accepted settings: time and counts 0, no notes or files, each route's first sequence number
+-- the ledger of accepted settings: time and counts 0, no files, each route's first sequence number
 abbrev pub lineFrom : List ℕ → ℕ → Line
 lineFrom xs k =
     record {
@@ -79,7 +78,7 @@ lineFrom xs k =
       lost = 0;
       next = num 4 xs (k + 37);
       losses = 0;
-      note = false;
+      unrouted = 0;
       closed = [];
       current = none;
     }

@@ -7,10 +7,11 @@ use Prim.Native.Nat.{ℕ, _≤_, _<_}
 use native.Mathlib.Omega.{arith}
 use lib.Dec.{ltb, eqb}
 use lib.ListN.{length}
-use borrow.Author.Tests.{ltb-false, eqb-true, eqb-false, lt-ltb, eq-eqb, not-false}
+use borrow.Author.Tests.{ltb-false, eqb-true, eqb-false, lt-ltb, eq-eqb, ne-eqb, not-false}
 use Rattle.octets.specs.Number.{Octets}
 use Rattle.octets.specs.Splice.{splice}
 use Rattle.refusals.specs.Refusal.{_when_, first, passed, or-false}
+use Rattle.refusals.specs.Below.{allBelow, below-each, below-all}
 use Rattle.record.specs.Record.{RightRecord}
 use Rattle.state.specs.declared.RouteSettings.{RouteSettings}
 use Rattle.state.specs.declared.Routed.{Routed}
@@ -24,15 +25,16 @@ use Rattle.events.specs.declared.Arrival.{Arrival}
 use Rattle.events.specs.Rules.{wrongFields, headerFor, recordSize}
 use Rattle.events.specs.Events.{After, answered}
 use Rattle.events.specs.Receive.{recordOf, isLost, placedSize, needed, receiveRules, lostAt, placedAt, unrouted, taken, receiveOf}
+use Rattle.events.specs.Receive.{canNote, unroutedFull}
 use Rattle.events.specs.Receive.{countersFull as managerFull}
 use Rattle.ledger.specs.Event.{RECEIVE}
-use Rattle.ledger.specs.Ledger.{Ledger, lineAt, Entry, lengths, amongLines, routedTo, lostBy, loses, places, unroutes, receives, countersFull, fitsMark, neededBy, refusal, answerOf, entryOf}
+use Rattle.ledger.specs.Ledger.{Ledger, lineAt, Entry, lengths, amongLines, routedTo, lostBy, loses, places, unroutes, receives, anyFull, countersFull, fitsMark, neededBy, refusal, answerOf, entryOf}
 use Rattle.ledger.specs.Ledger.{effective as bookTime}
 use Rattle.ledger.specs.Ledger.{regions as lineRegions}
 use Rattle.ledger.specs.Run.{happens}
 use Rattle.ledger.specs.Agrees.{Agrees}
 use Rattle.ledger.specs.Regions.{regions-same}
-use Rattle.ledger.specs.Books.{routed-below}
+use Rattle.ledger.specs.Books.{routed-below, can-note, none-full}
 use Rattle.ledger.specs.Words.{fields-same}
 use Rattle.ledger.specs.Refusals.{routes-same}
 use Rattle.ledger.specs.Steps.{Holds, answerAt, event-holds, common-passed, effective-right, time-same}
@@ -173,20 +175,42 @@ module _ {store : List ℕ} {m : Manager} {l : Ledger} (a : Agrees store m l) (v
   routing e =
       record { below = omega (arith, a .count, routed-below l key v e); unmarked = unmarked-by v (amongLines l key (length (l .lines))) e }
 
-  -- 19 is the same
+  -- 19 is the same: no configured route's count of unrouted records is full exactly where no line's is
+  any-same : not (allBelow (canNote m) (m .count)) ≡ anyFull (l .lines)
+  any-same = go (allBelow (canNote m) (m .count)) refl (anyFull (l .lines)) refl
+    where
+      below : (i : ℕ) → i < length (l .lines) → i < m .count
+      below i h = omega (arith, a .count)
+
+      rises : allBelow (canNote m) (m .count) ≡ true → (i : ℕ) → i < length (l .lines) → lineAt l i .unrouted ≡ 4294967295 → ⊥
+      rises p i h e =
+          let room : not (eqb (routeAt m i .unrouted) 4294967295) ≡ true = below-each (canNote m) (m .count) p i (below i h) in
+          false≢true (sym (ap not (eq-eqb _ _ (a .lines i (below i h) .unrouted ∙ e))) ∙ room)
+
+      room : anyFull (l .lines) ≡ false → (i : ℕ) → i < m .count → canNote m i ≡ true
+      room q i h =
+          let low : i < length (l .lines) = omega (arith, a .count) in
+          ap not (ne-eqb _ _ (λ e. can-note (l .lines) i low q (sym (a .lines i h .unrouted) ∙ e)))
+
+      go : (b : Bool) → allBelow (canNote m) (m .count) ≡ b → (c : Bool) → anyFull (l .lines) ≡ c → not b ≡ c
+      go true p true q = absurd (false≢true (sym (none-full (l .lines) (rises p)) ∙ q))
+      go true p false q = refl
+      go false p true q = refl
+      go false p false q = absurd (false≢true (sym p ∙ below-all (canNote m) (m .count) (room q)))
+
   full-by : (n : ℕ) (f : Bool) (i : ℕ) → (f ≡ true → Routing m v i)
-      → cond f (isLost m v i n && eqb (routeAt m i .losses) 4294967295) (eqb (m .unrouted) 4294967295)
-      ≡ cond f (lostBy (lineAt l i .settings) v n && eqb (lineAt l i .losses) 4294967295) (eqb (l .unrouted) 4294967295)
+      → cond f (isLost m v i n && eqb (routeAt m i .losses) 4294967295) (unroutedFull m)
+      ≡ cond f (lostBy (lineAt l i .settings) v n && eqb (lineAt l i .losses) 4294967295) (eqb (l .unrouted) 4294967295 || anyFull (l .lines))
   full-by n true i w =
       let line = a .lines i (w refl .below) in
       let settings = line .settings in
       let losses = line .losses in
       λ j. lostBy (settings j) v n && eqb (losses j) 4294967295
-  full-by n false i w = ap (λ (k : ℕ). eqb k 4294967295) (a .unrouted)
+  full-by n false i w = let unrouted = a .unrouted in λ j. eqb (unrouted j) 4294967295 || any-same j
 
   full-same : (n : ℕ) → managerFull m v key n ≡ countersFull l v key n
   full-same n =
-      ap (λ (q : Routed). cond (q .found) (isLost m v (q .at) n && eqb (routeAt m (q .at) .losses) 4294967295) (eqb (m .unrouted) 4294967295)) (routes-same a v key)
+      ap (λ (q : Routed). cond (q .found) (isLost m v (q .at) n && eqb (routeAt m (q .at) .losses) 4294967295) (unroutedFull m)) (routes-same a v key)
       ∙ full-by n (routedTo l v key .found) (routedTo l v key .at) routing
 
 -- A rule that is the same in both lists, and what comes behind it where it does not apply.

@@ -1,5 +1,5 @@
--- One event (Steps): RECEIVE of a record that is not placed: an unrouted one is noted on every route, a lost one is counted on
--- its route. Assumes nothing.
+-- One event (Steps): RECEIVE of a record that is not placed: an unrouted one is counted on every route, a lost one on
+-- its own. Assumes nothing.
 use mathlib.Core.Path.{_≡_, refl, sym, ap, _∙_}
 use mathlib.Core.Bool.{true}
 use mathlib.Core.List.{List, [], _∷_}
@@ -24,9 +24,9 @@ use Rattle.ledger.specs.Lines.{lost-agrees, noted-agrees}
 use Rattle.ledger.specs.Regions.{few, settings-with, agrees-with}
 use Rattle.ledger.specs.Steps.{Holds, state-kept}
 
--- Noted routes, by index.
+-- Routes on which it is counted, by index.
 module _ (m : Manager) where
-  -- the state with the routes below n noted
+  -- the state with it counted on the routes below n
   abbrev notedTo : ℕ → Manager
   notedTo n = record { routes = noted m n; count = m .count; address = m .address; bias = m .bias; last = m .last; unrouted = m .unrouted }
 
@@ -46,7 +46,7 @@ module _ (m : Manager) where
         | no e ↦ getD-set-other (noted m n) n j (notedRoute (routeAt m n)) noRoute e ∙ noted-at n j (omega arith) (omega arith)
       ]
 
--- noted lines
+-- and lines
 lines-length : (xs : List Line) → length (notedLines xs) ≡ length xs
 lines-length [] = refl
 lines-length (x ∷ xs) = ap suc (lines-length xs)
@@ -59,7 +59,7 @@ lines-at (x ∷ xs) (suc j) h = lines-at xs j (omega arith)
 line-at : {store : List ℕ} {b b′ : ℕ} {r r′ : Route} {x x′ : Line} → b ≡ b′ → r ≡ r′ → x ≡ x′ → AgreesLine store b′ r′ x′ → AgreesLine store b r x
 line-at p q e a = rw (p, q, e) a
 
--- a note and a loss are not judged
+-- no counter is judged
 noted-within : {t : ℕ} {r : Route} → RouteWithin t r → RouteWithin t (notedRoute r)
 noted-within w = record { settings = w .settings; file = w .file }
 

@@ -15,11 +15,10 @@ use Rattle.refusals.specs.Tests.{both}
 use Rattle.state.specs.declared.Route.{Route}
 use Rattle.state.specs.Manager.{Manager}
 use Rattle.state.specs.Manager.{noRoute, routeAt, nodeOf, base, effective, withTime}
-use Rattle.state.specs.Loss.{indicator}
 use Rattle.state.specs.Within.{Within}
 use Rattle.words.specs.Words.{managerIn, wordsOf, changingWords}
 use Rattle.words.specs.Laws.{words-words, routes-eight, changed-words, timed-words, route-still, next-still, put-number, put-still}
-use Rattle.filing.specs.Closing.{closedFile, closedSize}
+use Rattle.filing.specs.Closing.{lostOctet, closedFile, closedSize}
 use Rattle.filing.specs.Needs.{Closable}
 use Rattle.events.specs.declared.Answer.{Answer}
 use Rattle.events.specs.Rules.{closedRoute, due}
@@ -99,8 +98,8 @@ pub record Inv (words₀ : List ℕ) (t n : ℕ) (store output out xs : List ℕ
   pub below : i ≤ n
   pub few : files ≤ i
   pub words : xs ≡ wordsOf (upTo (managerIn words₀) store t i .manager)
-  pub number : length xs ≡ 152
-  pub rest : drop (8 + 18 * i) xs ≡ drop (8 + 18 * i) words₀
+  pub number : length xs ≡ 160
+  pub rest : drop (8 + 19 * i) xs ≡ drop (8 + 19 * i) words₀
   pub from : start ≡ base (managerIn words₀) i
   pub size : at ≡ dueSize (managerIn words₀) t i
   pub octets : at ≡ length (upTo (managerIn words₀) store t i .octets)
@@ -112,7 +111,7 @@ module _ (words₀ : List ℕ) (t n : ℕ) (store output : List ℕ) where
   abbrev m : Manager
   m = managerIn words₀
 
-  pub begins : length words₀ ≡ 152 → Inv words₀ t n store output output words₀ 0 0 0 0
+  pub begins : length words₀ ≡ 160 → Inv words₀ t n store output output words₀ 0 0 0 0
   begins e =
       record {
         below = omega arith;
@@ -157,17 +156,17 @@ module _ (words₀ : List ℕ) (t n : ℕ) (store output : List ℕ) where
 
     module _ (e : due t (routeAt m i) ≡ true) where
       -- its file can be closed
-      pub ready : Ticks m t n store output → Closable (nodeOf m) (routeAt m i) (indicator (routeAt m i .losses) (routeAt m i .note)) store (base m i) out at
+      pub ready : Ticks m t n store output → Closable (nodeOf m) (routeAt m i) (lostOctet (routeAt m i)) store (base m i) out at
       ready k =
           closes (k .state) store (k .regions) i (omega (arith, k .few)) (due-live t (routeAt m i) e) out at
           (omega (arith, size-due m t i e, size-grows m t (i + 1) n (omega arith), k .room, v .size, v .long))
 
       -- its words are those of the state without it
-      closed-words : n ≤ 8 → {r : Route} → r ≡ closedRoute (routeAt m i) → splice words (17 + 18 * i) (changingWords r []) ≡ wordsOf (upTo m store t (i + 1) .manager)
+      closed-words : n ≤ 8 → {r : Route} → r ≡ closedRoute (routeAt m i) → splice words (17 + 19 * i) (changingWords r []) ≡ wordsOf (upTo m store t (i + 1) .manager)
       closed-words few {r} er =
           let q = upTo m store t i .manager in
           let there : i < length (q .routes) = omega (arith, upTo-eight m t store i, routes-eight words₀) in
-          (λ j. splice (v .words j) (17 + 18 * i) (changingWords (er j) []))
+          (λ j. splice (v .words j) (17 + 19 * i) (changingWords (er j) []))
           ∙ sym (changed-words q i (closedRoute (routeAt m i)) there (sym (ap (λ (x : Route). x .settings) (upTo-route m t store i i (omega arith)))))
           ∙ sym (ap (λ (x : Run). wordsOf (x .manager)) (upTo-due m t store i e))
 
@@ -175,7 +174,7 @@ module _ (words₀ : List ℕ) (t n : ℕ) (store output : List ℕ) where
       pub turn-due : n ≤ 8 → {out′ words′ : List ℕ} {at′ limit : ℕ} {r : Route} → limit ≡ routeAt m i .settings .limit → at′ ≡ at + closedSize (routeAt m i)
           → out′ ≡ splice out at (closedFile m store i 2)
           → length (closedFile m store i 2) ≡ closedSize (routeAt m i) → length out′ ≡ length out
-          → r ≡ closedRoute (routeAt m i) → words′ ≡ splice words (17 + 18 * i) (changingWords r [])
+          → r ≡ closedRoute (routeAt m i) → words′ ≡ splice words (17 + 19 * i) (changingWords r [])
           → Inv words₀ t n store output out′ words′ (from + limit) at′ (files + 1) (i + 1)
       turn-due few {words′ = words′} {r = r} l ea eo ef el er ew =
           let u = upTo-due m t store i e in
@@ -186,7 +185,7 @@ module _ (words₀ : List ℕ) (t n : ℕ) (store output : List ℕ) where
             few = omega (arith, v .few);
             words = ew ∙ closed-words few er;
             number = ap length ew ∙ put-number words words₀ i (v .rest) (v .number) (omega arith) r;
-            rest = ap (drop (8 + 18 * (i + 1))) ew ∙ put-still words words₀ i (v .rest) (v .number) (omega arith) r;
+            rest = ap (drop (8 + 19 * (i + 1))) ew ∙ put-still words words₀ i (v .rest) (v .number) (omega arith) r;
             from = next-base l;
             size = omega (arith, ea, v .size, size-due m t i e);
             octets = omega (arith, ea, v .octets, ef, length-append o f, ap (λ (x : Run). length (x .octets)) u);

@@ -17,7 +17,7 @@ use judging::common_refusal;
 
 // The octets of the files below n that are due at time t.
 fn due_size(words: &[u32], t: u32, n: usize) -> usize
-    requires { ⌜ (length (now words) ≡ 152) × (n ≤ 8) ⌝ }
+    requires { ⌜ (length (now words) ≡ 160) × (n ≤ 8) ⌝ }
     ensures { λ r. ⌜ r ≡ dueSize (managerIn (now (words .entry))) t n ⌝ }
 {
     let mut size: usize = 0;
@@ -34,7 +34,7 @@ fn due_size(words: &[u32], t: u32, n: usize) -> usize
 // Closes the files below n that are due at time t, in route order, each behind the one before; how many there were. Every file is
 // the one that the state at the event's beginning describes: a route's words change behind its own turn.
 fn close_due(words: &mut [u32], t: u32, n: usize, store: &[u8], output: &mut [u8]) -> u8
-    requires { ⌜ (length (now words) ≡ 152) × Ticks (managerIn (now words)) t n (now store) (now output) ⌝ }
+    requires { ⌜ (length (now words) ≡ 160) × Ticks (managerIn (now words)) t n (now store) (now output) ⌝ }
     ensures { λ r. ⌜ Ticked (managerIn (now (words .entry))) t n (now (store .entry)) (now (output .entry)) (now (output .exit)) (now (words .exit)) r ⌝ }
 {
     let node = words::node_of(words);
@@ -62,7 +62,7 @@ fn close_due(words: &mut [u32], t: u32, n: usize, store: &[u8], output: &mut [u8
 pub fn tick(words: &mut [u32], store: &mut [u8], output: &mut [u8], time: u32) -> Answer
     ensures { λ r. ⌜ left r (now (words .exit)) (now (store .exit)) (now (output .exit)) ≡ tickOn (now (words .entry)) (now (store .entry)) (now (output .entry)) time ⌝ }
 {
-    if words.len() != 152 {
+    if words.len() != 160 {
         return refuse(18, 0);
     }
     let number = common_refusal(words, store.len(), time);

@@ -4,15 +4,14 @@ use mathlib.Core.Path.{_≡_, refl, sym}
 use mathlib.Core.Bool.{Bool, true, false, cond}
 use mathlib.Core.List.{List, []}
 use Prim.Native.Nat.{ℕ, _+_, _≤_, _<_}
-use lib.ListN.{length, take, drop}
-use Rattle.cdrfile.specs.File.{fileOctets}
+use lib.ListN.{length}
 use Rattle.state.specs.declared.Route.{Route}
 use Rattle.state.specs.declared.Node.{Node}
 use Rattle.state.specs.Manager.{Manager}
-use Rattle.state.specs.Manager.{routeAt, settingsAt, filterOf, base, withRoute, nodeOf}
+use Rattle.state.specs.Manager.{settingsAt, base, withRoute, nodeOf}
 use Rattle.state.specs.Keep.{base-kept, route-set, settings-kept}
-use Rattle.filing.specs.Closing.{headerFor, closedFile, closedSize}
-use Rattle.filing.specs.Closed.{closedFrom, closed-from-length}
+use Rattle.filing.specs.Closing.{closedFile, closedSize}
+use Rattle.filing.specs.Closed.{closedFrom, closed-is, closed-from-length}
 
 -- a route's file and its length, where it closes
 abbrev pub closedIf : Bool → Node → Route → ℕ → List ℕ → ℕ → List ℕ
@@ -29,8 +28,5 @@ length-if n r reason store from twenty false h = refl
 -- the file of a route that takes another's place with the same settings, from the state where it does
 pub closed-behind : (m : Manager) (q : Route) (store : List ℕ) (i reason : ℕ) → i < length (m .routes) → q .settings ≡ settingsAt m i
     → closedFrom (nodeOf m) q reason store (base m i) ≡ closedFile (withRoute m i q) store i reason
-unfolding closedFile
 closed-behind m q store i reason there kept =
-    let r : q ≡ routeAt (withRoute m i q) i = sym (route-set m i q there) in
-    let b : base m i ≡ base (withRoute m i q) i = sym (base-kept m (withRoute m i q) (settings-kept m i q there kept) i) in
-    λ j. fileOctets (headerFor (nodeOf m) (r j) reason) (filterOf (r j .settings)) [] (take (r j .file .octets) (drop (b j) store)) (r j .file .count)
+    closed-is (withRoute m i q) store i reason (sym (route-set m i q there)) (sym (base-kept m (withRoute m i q) (settings-kept m i q there kept) i))

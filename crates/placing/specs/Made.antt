@@ -17,9 +17,8 @@ use Rattle.state.specs.declared.Route.{Route}
 use Rattle.state.specs.declared.Node.{Node}
 use Rattle.state.specs.Manager.{Manager}
 use Rattle.state.specs.Manager.{routeAt, nodeOf, base}
-use Rattle.state.specs.Loss.{indicator}
 use Rattle.state.specs.Within.{SettingsWithin, RouteWithin}
-use Rattle.filing.specs.Closing.{closedSize}
+use Rattle.filing.specs.Closing.{lostOctet, closedSize}
 use Rattle.filing.specs.Closed.{closed-from}
 use Rattle.filing.specs.Needs.{Appendable, Closable}
 use Rattle.events.specs.declared.Arrival.{Arrival}
@@ -67,9 +66,9 @@ placeOf n from r store output t a body =
 -- what the steps of a plan need: the record fits its region, and each file that closes fits the output, the second behind the first
 pub record Carried (n : Node) (from : ℕ) (store output : List ℕ) (r : Route) (p : Plan) (h : RecordHeader) (body : List ℕ) : Type 0 where
   pub append : Appendable store from (r .settings .limit) (p .used) h body
-  pub before : p .turns ≡ true → Closable n r (indicator (r .losses) (r .note)) store from output 0
+  pub before : p .turns ≡ true → Closable n r (lostOctet r) store from output 0
   pub behind : p .fills ≡ true
-      → Closable n (p .holding) (indicator (p .holding .losses) (p .holding .note)) store from output (sizeIf (p .turns) r)
+      → Closable n (p .holding) (lostOctet (p .holding)) store from output (sizeIf (p .turns) r)
 
 -- only the lengths of store and output matter to a closing, so what is written before it does not
 pub closable-kept : {n : Node} {r : Route} {octet from at : ℕ} {store store′ output output′ : List ℕ} {at′ : ℕ}
@@ -130,7 +129,7 @@ turns-open r a body e = go (r .«open») refl
 module _ (n : Node) (store output : List ℕ) (from at : ℕ) (bias : n .bias ≤ 2878) where
   -- an open file of a state within its bounds can close
   open-closable : (r : Route) → RouteWithin 52595999 r → r .«open» ≡ true → from + r .settings .limit ≤ length store → at + closedSize r ≤ length output
-      → Closable n r (indicator (r .losses) (r .note)) store from output at
+      → Closable n r (lostOctet r) store from output at
   open-closable r w o region room =
       let f = w .file o in
       let s = w .settings in
@@ -153,7 +152,7 @@ module _ (n : Node) (store output : List ℕ) (from at : ℕ) (bias : n .bias �
   -- and so can a file with the record in it
   held-closable : (s : RouteSettings) (q : Route) (h : RecordHeader) (octets t : ℕ) → SettingsWithin s → Roomy s q h octets → t ≤ 52595999
       → from + s .limit ≤ length store → at + closedSize (appendedRoute q h octets t) ≤ length output
-      → Closable n (appendedRoute q h octets t) (indicator (q .losses) (q .note)) store from output at
+      → Closable n (appendedRoute q h octets t) (lostOctet q) store from output at
   held-closable s q h octets t w y time region room =
       let e : q .settings .octets ≡ s .octets = ap (λ (x : RouteSettings). x .octets) (y .settings) in
       let size : closedSize (appendedRoute q h octets t) ≤ s .limit = omega (arith, y .size) in

@@ -21,7 +21,7 @@ use Rattle.events.specs.declared.Arrival.{Arrival}
 use Rattle.events.specs.Rules.{openedRoute, closedRoute, full, wrongFields, routedTo}
 use Rattle.events.specs.Events.{Outcome, After, after, changed, refused, settled}
 use Rattle.state.specs.Common.{common}
-use Rattle.events.specs.Receive.{isLost, turns, holding, finished, storeWith, needed, countersFull, taken, placedSize, placedFiles, unrouted, lostAt, placedAt, receiveOf}
+use Rattle.events.specs.Receive.{isLost, turns, holding, finished, storeWith, needed, unroutedFull, countersFull, taken, placedSize, placedFiles, unrouted, lostAt, placedAt, receiveOf}
 use Rattle.placing.specs.Plan.{Usable}
 use Rattle.placing.specs.Made.{Left, placeOf, placed-there}
 
@@ -68,7 +68,7 @@ unmarked m a i body e z = let f : true ≡ false = rw (eq-eqb _ _ z) at e in tru
 -- the three outcomes, each with its own refusal: 19 for a counter that would rise, 17 for the files that close
 abbrev pub unroutedOr : Manager → ℕ → Outcome
 unroutedOr m t =
-    cond (eqb (m .unrouted) 4294967295) (refused 19 0 m) (unrouted m [] [] t .outcome)
+    cond (unroutedFull m) (refused 19 0 m) (unrouted m [] [] t .outcome)
 
 abbrev pub lostOr : Manager → ℕ → ℕ → Outcome
 lostOr m t i = cond (eqb (routeAt m i .losses) 4294967295) (refused 19 0 m) (lostAt m [] [] t i .outcome)
@@ -136,7 +136,7 @@ module _ (rules : List Rule) (needed : ℕ) (m : Manager) (store output : List �
       → settled (first rules) needed m store output done ≡ settled (first ((5 when b5) ∷ rules)) needed m store output done
   five-left e = sym (rw e)
 
--- Behind them 19 and 17, by whether a record is found a route, and lost. `u` and `l` say that the counter of unrouted
+-- Behind them 19 and 17, by whether a record is found a route, and lost. `u` and `l` say that a counter of unrouted
 -- records, or of the route's losses, is at its end.
 module _ (found lost u l : Bool) (size : ℕ) (m : Manager) (store output : List ℕ) (x y z : After) where
   abbrev last-two : List Rule
@@ -227,7 +227,7 @@ module _ (m : Manager) (store output : List ℕ) (time : ℕ) (a : Arrival) (key
       pass = unrouted m store output (effective m time)
 
       abbrev u : Bool
-      u = eqb (m .unrouted) 4294967295
+      u = unroutedFull m
 
       abbrev l : Routed → Bool
       l to = eqb (routeAt m (to .at) .losses) 4294967295
@@ -269,7 +269,7 @@ module _ (m : Manager) (store output : List ℕ) (time : ℕ) (a : Arrival) (key
               → after (changed m t (to .at) (q .placed .route) 2 (q .placed .files) (q .placed .octets)) (q .store) (q .output) ≡ receiveOf m store output time a key body
           receive-placed b = ap (λ (x : Outcome). after x (q .store) (q .output)) (sym (rw b)) ∙ told-receive
 
--- The route that a placing leaves: its settings are as they were, and its times are below bit 31.
+-- The route that a placing leaves: its settings are as they were, and its opening is below bit 31.
 module _ (n : Node) (from : ℕ) (r : Route) (store output : List ℕ) (t : ℕ) (a : Arrival) (body : List ℕ) {q : Left} (e : q ≡ placeOf n from r store output t a body) (f : q .placed .fits ≡ true) where
   -- refused, nothing would fit
   pub placed-route : q .placed .route ≡ finished r a (length body) t
@@ -293,17 +293,16 @@ pub finished-settings : (r : Route) (a : Arrival) (body t : ℕ) → finished r 
 finished-settings r a body t =
     either-settings (full (holding r a body t)) (holding r a body t) ∙ ready-settings r t (turns r a body) (r .«open»)
 
--- the times
+-- the opening
 module _ (r : Route) (t : ℕ) (opened : r .file .opened < 2147483648) (early : t < 2147483648) where
   ready-opened : (b o : Bool) → cond b (openedRoute (closedRoute r) t) (cond o r (openedRoute r t)) .file .opened < 2147483648
   ready-opened true o = early
   ready-opened false true = opened
   ready-opened false false = early
 
-  pub finished-early : (a : Arrival) (body : ℕ) → (finished r a body t .file .opened < 2147483648) × (finished r a body t .file .appended < 2147483648)
+  pub finished-early : (a : Arrival) (body : ℕ) → finished r a body t .file .opened < 2147483648
   finished-early a body = go (full (holding r a body t))
     where
-      go : (b : Bool) → (cond b (closedRoute (holding r a body t)) (holding r a body t) .file .opened < 2147483648)
-          × (cond b (closedRoute (holding r a body t)) (holding r a body t) .file .appended < 2147483648)
-      go true = (omega arith, omega arith)
-      go false = (ready-opened (turns r a body) (r .«open»), early)
+      go : (b : Bool) → cond b (closedRoute (holding r a body t)) (holding r a body t) .file .opened < 2147483648
+      go true = omega arith
+      go false = ready-opened (turns r a body) (r .«open»)

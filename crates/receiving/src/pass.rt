@@ -4,11 +4,14 @@ use events::Arrival;
 use state::Route;
 use state::RouteSettings;
 ghost use mathlib.Core.Path.{_≡_};
+ghost use mathlib.Core.Bool.{true};
 ghost use Prim.Native.Nat.{_≤_};
 ghost use lib.ListN.{length};
 ghost use Rattle.state.specs.Loss.{lost};
 ghost use Rattle.words.specs.Words.{managerIn, wordsOf};
+ghost use Rattle.refusals.specs.Below.{allBelow};
 ghost use Rattle.events.specs.Rules.{headerFor};
+ghost use Rattle.events.specs.Receive.{canNote};
 ghost use Rattle.receiving.specs.Cases.{UsableUnlessMarked, unroutedOr, lostOr};
 ghost use Rattle.receiving.specs.Told.{told, toldWords, ReadAt, notedTo};
 
@@ -25,31 +28,45 @@ pub fn is_lost(s: RouteSettings, a: Arrival, body: usize) -> bool
     state::is_lost(s, a.mark, h.release, body)
 }
 
-// Notes an unrouted record on the routes below n.
+// Whether every route below n can count one more unrouted record. The count is word 11 of a route's.
+fn can_note(words: &[u32], n: usize) -> bool
+    requires { ⌜ (length (now words) ≡ 160) × (n ≤ 8) ⌝ }
+    ensures { λ b. ⌜ b ≡ allBelow (canNote (managerIn (now (words .entry)))) n ⌝ }
+{
+    let mut all = true;
+    let mut i: usize = 0;
+    while i < n {
+        all = all & !(words[19 + 19 * i] == 4294967295);
+        i += 1;
+    }
+    all
+}
+
+// Counts an unrouted record on the routes below n, which can.
 fn note_routes(words: &mut [u32], n: usize)
-    requires { ⌜ (length (now words) ≡ 152) × (n ≤ 8) ⌝ }
+    requires { ⌜ (length (now words) ≡ 160) × (n ≤ 8) × (allBelow (canNote (managerIn (now words))) n ≡ true) ⌝ }
     ensures { λ _. ⌜ now (words .exit) ≡ wordsOf (notedTo (managerIn (now (words .entry))) n) ⌝ }
 {
     let mut i: usize = 0;
     while i < n {
-        let mut r = words::route_at(words, i);
-        r.note = true;
-        words::put_route(words, i, r);
+        let at = 19 + 19 * i;
+        words[at] = words[at] + 1;
         i += 1;
     }
 }
 
-// An unrouted record is counted, and noted on every configured route.
+// An unrouted record is counted, by the manager and on every configured route. All counters are looked at before one rises.
 pub fn unrouted(words: &mut [u32], t: u32) -> Answer
-    requires { ⌜ (length (now words) ≡ 152) × (managerIn (now words) .count ≤ 8) ⌝ }
+    requires { ⌜ (length (now words) ≡ 160) × (managerIn (now words) .count ≤ 8) ⌝ }
     ensures { λ r. ⌜ told r (now (words .exit)) ≡ toldWords (unroutedOr (managerIn (now (words .entry))) t) ⌝ }
 {
     let unrouted = words[7];
-    if unrouted == 4294967295 {
+    let n = words::count_of(words);
+    let room = can_note(words, n);
+    if (unrouted == 4294967295) | !room {
         return events::refuse(19, 0);
     }
     let more = unrouted + 1;
-    let n = words::count_of(words);
     note_routes(words, n);
     words[6] = t;
     words[7] = more;

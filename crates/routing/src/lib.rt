@@ -66,7 +66,7 @@ fn same_start(w: u32, k: u32, u: u32) -> bool
 
 // Whether the first n octets of five words are those of five others: word by word, up to the one in which the last of them stands.
 fn same_first(part: &[u32], five: &[u32; 5], n: u32) -> bool
-    requires { ⌜ 18 ≤ length (now part) ⌝ }
+    requires { ⌜ 19 ≤ length (now part) ⌝ }
     ensures { λ b. ⌜ b ≡ sameFrom (now (part .entry)) (now (five .entry)) n 5 0 ⌝ }
 {
     if n <= 4 {
@@ -98,7 +98,7 @@ fn same_first(part: &[u32], five: &[u32; 5], n: u32) -> bool
 
 // Whether the filter of the route whose words these begin with is a prefix of the key, of which `five` are the words.
 fn is_prefix(part: &[u32], key: &[u8], five: &[u32; 5]) -> bool
-    requires { ⌜ (18 ≤ length (now part)) × (settingsIn (now part) .octets ≤ 20) × (now five ≡ fiveWords (now key)) ⌝ }
+    requires { ⌜ (19 ≤ length (now part)) × (settingsIn (now part) .octets ≤ 20) × (now five ≡ fiveWords (now key)) ⌝ }
     ensures { λ r. ⌜ r ≡ fits (settingsIn (now (part .entry))) (now (key .entry)) ⌝ }
 {
     let octets = top_of(part[5]);
@@ -123,7 +123,7 @@ fn better_of(b: Routed, i: u8, octets: u8, fit: bool) -> Routed
 
 // The better of the route found so far and route i, whose words these begin with.
 fn better_in(b: Routed, i: u8, part: &[u32], key: &[u8], five: &[u32; 5]) -> Routed
-    requires { ⌜ (18 ≤ length (now part)) × (settingsIn (now part) .octets ≤ 20) × (now five ≡ fiveWords (now key)) ⌝ }
+    requires { ⌜ (19 ≤ length (now part)) × (settingsIn (now part) .octets ≤ 20) × (now five ≡ fiveWords (now key)) ⌝ }
     ensures { λ r. ⌜ r ≡ better b i (settingsIn (now (part .entry))) (now (key .entry)) ⌝ }
 {
     let octets = top_of(part[5]);
@@ -133,7 +133,7 @@ fn better_in(b: Routed, i: u8, part: &[u32], key: &[u8], five: &[u32; 5]) -> Rou
 
 // The route that a key goes to.
 pub fn route_of(words: &[u32], key: &[u8]) -> Routed
-    requires { ⌜ (length (now words) ≡ 152) × Routable (managerIn (now words)) ⌝ }
+    requires { ⌜ (length (now words) ≡ 160) × Routable (managerIn (now words)) ⌝ }
     ensures { λ r. ⌜ r ≡ routeOf (managerIn (now (words .entry))) (now (key .entry)) ⌝ }
 {
     let n = count_of(words);
@@ -145,7 +145,7 @@ pub fn route_of(words: &[u32], key: &[u8]) -> Routed
     };
     let mut i: usize = 0;
     while i < n {
-        let at = 8 + 18 * i;
+        let at = 8 + 19 * i;
         b = better_in(b, i as u8, &words[at..], key, &five);
         i += 1;
     }

@@ -93,7 +93,7 @@ module _ (xs : List ℕ) where
 abbrev pub blank : List ℕ → ℕ → Manager
 blank xs n = record { routes = routesFrom xs n; count = 0; address = replicate 16 0; bias = 0; last = 0; unrouted = 0 }
 
-pub blank-words : (xs : List ℕ) → replicate 152 0 ≡ wordsOf (blank xs 0)
+pub blank-words : (xs : List ℕ) → replicate 160 0 ≡ wordsOf (blank xs 0)
 unfolding wordsOf
 blank-words xs = refl
 
@@ -101,14 +101,14 @@ eight : (ys : List ℕ) (n : ℕ) → length (routesFrom ys n) ≡ 8
 eight ys zero = length-replicate 8 unusedRoute
 eight ys (suc n) = length-set (routesFrom ys n) n (routeFrom ys (routeStart n)) ∙ eight ys n
 
-pub blank-length : (xs : List ℕ) (i : ℕ) {l : List ℕ} → l ≡ wordsOf (blank xs i) → length l ≡ 152
+pub blank-length : (xs : List ℕ) (i : ℕ) {l : List ℕ} → l ≡ wordsOf (blank xs i) → length l ≡ 160
 blank-length xs i e = ap length e ∙ words-length (blank xs i) (eight xs i)
 
 pub next-words : (xs : List ℕ) (i : ℕ) → i < 8 → {l r : List ℕ} → l ≡ wordsOf (blank xs i) → r ≡ routeWords (routeFrom xs (routeStart i)) []
-    → splice l (8 + 18 * i) r ≡ wordsOf (blank xs (i + 1))
+    → splice l (8 + 19 * i) r ≡ wordsOf (blank xs (i + 1))
 next-words xs i h el er =
     let there : i < length (routesFrom xs i) = rw (eight xs i) h in
-    (λ j. splice (el j) (8 + 18 * i) (er j))
+    (λ j. splice (el j) (8 + 19 * i) (er j))
     ∙ filled-words (blank xs i) i (routeFrom xs (routeStart i)) there
     ∙ ap (λ (k : ℕ). wordsOf (blank xs k)) (sym (add-one i))
 

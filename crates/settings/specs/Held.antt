@@ -27,7 +27,6 @@ module _ (xs : List ℕ) (o : Octets xs) where
         filter = (refl, record { at = λ i. zeros 20 i });
         release = none-held;
         opened = omega arith;
-        appended = omega arith;
         high = none-held;
         low = none-held;
       }
@@ -43,7 +42,6 @@ module _ (xs : List ℕ) (o : Octets xs) where
         filter = (octetsAt-length 20 xs (k + 2), octetsAt-octets 20 (k + 2) o);
         release = record { release = omega (arith, o .at (k + 35)); extension = o .at (k + 36); version = omega (arith, o .at (k + 35)) };
         opened = omega arith;
-        appended = omega arith;
         high = none-held;
         low = none-held;
       }

@@ -60,7 +60,7 @@ settingsFrom xs k =
 -- a fresh route
 abbrev pub routeFrom : List ℕ → ℕ → Route
 routeFrom xs k =
-    record { settings = settingsFrom xs k; next = num 4 xs (k + 37); losses = 0; note = false; «open» = false; file = noFile }
+    record { settings = settingsFrom xs k; next = num 4 xs (k + 37); losses = 0; unrouted = 0; «open» = false; file = noFile }
 
 -- a route that is not configured
 abbrev pub unusedRoute : Route
@@ -69,7 +69,7 @@ unusedRoute =
       settings = record { filter = replicate 20 0; octets = 0; limit = 0; age = 0; most = 0; flag = 0; release = noRelease };
       next = 0;
       losses = 0;
-      note = false;
+      unrouted = 0;
       «open» = false;
       file = noFile;
     }

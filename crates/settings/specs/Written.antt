@@ -57,7 +57,7 @@ pub route-made : (xs : List ℕ) (k : ℕ) {f : List ℕ} {configured limit age 
     → most ≡ num 4 xs (k + 30)
     → next ≡ num 4 xs (k + 37)
     → flag ≡ packed (getD xs (k + 34) 0) 0 0 0
-    → (getD f 0 0 ∷ getD f 1 0 ∷ getD f 2 0 ∷ getD f 3 0 ∷ getD f 4 0 ∷ configured ∷ limit ∷ age ∷ most ∷ next ∷ 0 ∷ 0 ∷ 0 ∷ 0 ∷ 0 ∷ flag ∷ 0 ∷ 0 ∷ [])
+    → (getD f 0 0 ∷ getD f 1 0 ∷ getD f 2 0 ∷ getD f 3 0 ∷ getD f 4 0 ∷ configured ∷ limit ∷ age ∷ most ∷ next ∷ 0 ∷ 0 ∷ 0 ∷ 0 ∷ 0 ∷ 0 ∷ flag ∷ 0 ∷ 0 ∷ [])
     ≡ routeWords (routeFrom xs k) []
 route-made xs k ef er el eg em en eg′ =
     λ i.
@@ -71,6 +71,7 @@ route-made xs k ef er el eg em en eg′ =
     ∷ eg i
     ∷ em i
     ∷ en i
+    ∷ 0
     ∷ 0
     ∷ 0
     ∷ 0

@@ -13,7 +13,7 @@ ghost use Rattle.settings.specs.Held.{outOfRange};
 #[repr(C)]
 pub struct Loaded {
     pub refusal: u8,
-    pub words: [u32; 152],
+    pub words: [u32; 160],
 }
 
 // Whether the first `n` routes have kind 2.
@@ -61,8 +61,8 @@ fn filter_words(octets: &[u8], k: usize) -> [u32; 5]
     [a, b, c, d, e]
 }
 
-// The words of the fresh route whose octets start at `k`: nothing is open, lost or noted.
-fn route_words(octets: &[u8], k: usize) -> [u32; 18]
+// The words of the fresh route whose octets start at `k`: nothing is open, lost or unrouted.
+fn route_words(octets: &[u8], k: usize) -> [u32; 19]
     requires { ⌜ k + 41 ≤ length (now octets) ⌝ }
     ensures { λ r. ⌜ r ≡ routeWords (routeFrom (now (octets .entry)) k) [] ⌝ }
 {
@@ -91,6 +91,7 @@ fn route_words(octets: &[u8], k: usize) -> [u32; 18]
         0,
         0,
         0,
+        0,
         flag,
         0,
         0,
@@ -111,15 +112,15 @@ fn node_words(octets: &[u8], count: u32) -> [u32; 6]
 }
 
 // The words of the fresh manager of `n` routes.
-fn words_from(octets: &[u8], n: usize) -> [u32; 152]
+fn words_from(octets: &[u8], n: usize) -> [u32; 160]
     requires { ⌜ (n ≤ 8) × (routeStart n ≤ length (now octets)) ⌝ }
     ensures { λ r. ⌜ r ≡ wordsOf (managerFrom (now (octets .entry)) n) ⌝ }
 {
-    let mut words = [0u32; 152];
+    let mut words = [0u32; 160];
     let mut i: usize = 0;
     while i < n {
         let route = route_words(octets, 19 + 41 * i);
-        words::copy(&mut words, 8 + 18 * i, &route);
+        words::copy(&mut words, 8 + 19 * i, &route);
         i += 1;
     }
     let node = node_words(octets, n as u32);
@@ -129,7 +130,7 @@ fn words_from(octets: &[u8], n: usize) -> [u32; 152]
 
 // Refusal 2, by the words of `n` routes: a value beyond its range.
 fn beyond_range(words: &[u32], n: usize) -> bool
-    requires { ⌜ (length (now words) ≡ 152) × (n ≤ 8) ⌝ }
+    requires { ⌜ (length (now words) ≡ 160) × (n ≤ 8) ⌝ }
     ensures { λ r. ⌜ r ≡ outOfRange (managerIn (now (words .entry))) n ⌝ }
 {
     let right = judging::routes_right(words, n);
@@ -142,7 +143,7 @@ fn refused(number: u8) -> Loaded
 {
     Loaded {
         refusal: number,
-        words: [0u32; 152],
+        words: [0u32; 160],
     }
 }
 

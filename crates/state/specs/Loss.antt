@@ -15,7 +15,7 @@ use Rattle.state.specs.Size.{aloneSize}
 abbrev pub lost : ℕ → ℕ → ℕ → Release → ℕ → Bool
 lost limit filter mark r body = eqb mark 1 || ltb 65534 body || ltb limit (aloneSize filter r (headerLength r + body))
 
--- the indicator of n known losses and the note u of an unrouted record
+-- the indicator of n known losses; u: an unrouted record came in their time
 abbrev pub indicator : ℕ → Bool → ℕ
 indicator n false = cond (eqb n 0) 0 (128 + min n 127)
 indicator n true = cond (eqb n 0) 128 (min n 127)
@@ -30,7 +30,7 @@ pub record Says (octet t : ℕ) (u : Bool) : Type 0 where
   pub exact : 129 ≤ octet → octet ≤ 254 → t ≡ octet - 128
   pub many : octet ≡ 255 → 127 ≤ t
 
--- the octet written is true: of t = n without a note, and of any t from n on with one
+-- the octet written is true: of t = n without u, and of any t from n on with it
 says-by : (n t octet : ℕ) (u : Bool) (z : Dec (n ≡ 0)) → indicator n u ≡ octet → n ≤ t → (u ≡ false → t ≡ n) → Says octet t u
 says-by n t octet false (yes e) o le known =
     let k = known refl in

@@ -33,7 +33,7 @@ noRoute =
       settings = record { filter = []; octets = 0; limit = 0; age = 0; most = 0; flag = 0; release = noRelease };
       next = 0;
       losses = 0;
-      note = false;
+      unrouted = 0;
       «open» = false;
       file = noFile;
     }

@@ -1,5 +1,6 @@
--- The size rule (document 01, File header; Routing and loss): how many octets a file has, from its filter's length, its high
--- and low release and its records' octets. The manager writes no private extension. Assumes nothing.
+-- The size rule (document 01, File header; Routing and loss; document 02, ask 3): how many octets a file has, from its filter's
+-- length, its high and low release and its records' octets. Every file of the manager's has the private extension of the loss
+-- counts. Assumes nothing.
 use mathlib.Core.Bool.{Bool, true, false, cond}
 use mathlib.Core.List.{[], _∷_}
 use Prim.Native.Nat.{ℕ, _+_, _≤_}
@@ -9,11 +10,15 @@ use lib.ListN.{length}
 use Rattle.record.specs.declared.Release.{Release}
 use Rattle.record.specs.Release.{extensionOctets}
 
+-- the private extension of the loss counts: its length in 2 octets, and its 9
+abbrev pub countsSize : ℕ
+countsSize = 2 + 9
+
 -- the header of a file of the manager's, by the filter's length, high and low
 abbrev pub headerSize : ℕ → Release → Release → ℕ
-headerSize filter high low = 50 + filter + length (extensionOctets high) + length (extensionOctets low)
+headerSize filter high low = 50 + filter + countsSize + length (extensionOctets high) + length (extensionOctets low)
 
--- an extension is one octet at most, so a header has 52 octets and the filter at most
+-- a release's extension is one octet at most
 extension-most : (r : Release) → length (extensionOctets r) ≤ 1
 extension-most r = most (eqb (r .release) 7)
   where
@@ -21,10 +26,7 @@ extension-most r = most (eqb (r .release) 7)
     most true = omega arith
     most false = omega arith
 
-pub size-least : (filter : ℕ) (high low : Release) → 50 + filter ≤ headerSize filter high low
-size-least filter high low = omega arith
-
-pub size-most : (filter : ℕ) (high low : Release) → headerSize filter high low ≤ 52 + filter
+pub size-most : (filter : ℕ) (high low : Release) → headerSize filter high low ≤ 50 + filter + countsSize + 2
 size-most filter high low = omega (arith, extension-most high, extension-most low)
 
 -- a file that holds a record alone: both high and low are the record's

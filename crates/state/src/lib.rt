@@ -38,13 +38,13 @@ pub struct OpenFile {
     pub octets: u32,
 }
 
-// A route: its settings, its next sequence number, the known losses and the note of an unrouted record since its last file
-// closed, and its open file, if any.
+// A route: its settings, its next sequence number, the known losses and the unrouted records since its last file closed, and
+// its open file, if any.
 pub struct Route {
     pub settings: RouteSettings,
     pub next: u32,
     pub losses: u32,
-    pub note: bool,
+    pub unrouted: u32,
     pub open: bool,
     pub file: OpenFile,
 }

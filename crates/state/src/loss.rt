@@ -26,12 +26,12 @@ fn in_seven_bits(losses: u32) -> u8
     if losses < 127 { losses as u8 } else { 127 }
 }
 
-// The lost indicator of so many known losses and the note of an unrouted record.
-pub fn lost_indicator(losses: u32, note: bool) -> u8
-    ensures { λ n. ⌜ n ≡ indicator losses note ⌝ }
+// The lost indicator of so many known losses, `noted` where there was an unrouted record.
+pub fn lost_indicator(losses: u32, noted: bool) -> u8
+    ensures { λ n. ⌜ n ≡ indicator losses noted ⌝ }
 {
     let known = in_seven_bits(losses);
-    if note {
+    if noted {
         if losses == 0 { 128 } else { known }
     } else {
         if losses == 0 { 0 } else { 128 + known }

@@ -1,4 +1,4 @@
--- Words and the state that they stand for determine each other (Words): of any 152 words the state's words are these again, and of any
+-- Words and the state that they stand for determine each other (Words): of any 160 words the state's words are these again, and of any
 -- state whose packed fields have room the words' state is that state. What an event changes of a route is one splice.
 -- Assumes nothing.
 use mathlib.Core.Path.{_≡_, refl, sym, ap, _∙_, subst}
@@ -76,7 +76,7 @@ module _ (n : ℕ) (h : n < 2147483648) where
   rest-flagged false = ap (λ (f : Bool). cond f (n - 2147483648) n) (flag-flagged false)
 
 -- The words of what words say are these words.
-pub words-route : (xs : List ℕ) → 18 ≤ length xs → routeWords (routeIn xs) (drop 18 xs) ≡ xs
+pub words-route : (xs : List ℕ) → 19 ≤ length xs → routeWords (routeIn xs) (drop 19 xs) ≡ xs
 unfolding routeIn
 words-route xs h =
     (λ i.
@@ -92,23 +92,24 @@ words-route xs h =
     ∷ getD xs 9 0
     ∷ getD xs 10 0
     ∷ getD xs 11 0
-    ∷ flagged-word (getD xs 12 0) i
+    ∷ getD xs 12 0
     ∷ flagged-word (getD xs 13 0) i
-    ∷ packed-word (getD xs 14 0) i
+    ∷ getD xs 14 0
     ∷ packed-word (getD xs 15 0) i
-    ∷ getD xs 16 0
+    ∷ packed-word (getD xs 16 0) i
     ∷ getD xs 17 0
-    ∷ drop 18 xs)
-    ∙ octets-at 18 xs 0 (omega arith)
+    ∷ getD xs 18 0
+    ∷ drop 19 xs)
+    ∙ octets-at 19 xs 0 (omega arith)
 
-pub words-routes : (n : ℕ) (xs : List ℕ) → length xs ≡ 18 * n → routesWords (routesIn xs n) ≡ xs
+pub words-routes : (n : ℕ) (xs : List ℕ) → length xs ≡ 19 * n → routesWords (routesIn xs n) ≡ xs
 words-routes zero [] e = refl
 words-routes zero (x ∷ xs) e = absurd (omega arith)
 words-routes (suc n) xs e =
-    ap (routeWords (routeIn xs)) (words-routes n (drop 18 xs) (omega (arith, length-drop 18 xs)))
+    ap (routeWords (routeIn xs)) (words-routes n (drop 19 xs) (omega (arith, length-drop 19 xs)))
     ∙ words-route xs (omega arith)
 
-pub words-words : (xs : List ℕ) → length xs ≡ 152 → wordsOf (managerIn xs) ≡ xs
+pub words-words : (xs : List ℕ) → length xs ≡ 160 → wordsOf (managerIn xs) ≡ xs
 unfolding wordsOf managerIn
 words-words xs e =
     (λ i.
@@ -123,12 +124,12 @@ words-words xs e =
     ∷ words-routes 8 (drop 8 xs) (omega (arith, length-drop 8 xs)) i)
     ∙ octets-at 8 xs 0 (omega arith)
 
--- A state of eight routes has 152 words.
-routes-length : (rs : List Route) → length (routesWords rs) ≡ 18 * length rs
+-- A state of eight routes has 160 words.
+routes-length : (rs : List Route) → length (routesWords rs) ≡ 19 * length rs
 routes-length [] = refl
 routes-length (r ∷ rs) = omega (arith, routes-length rs)
 
-pub words-length : (m : Manager) → length (m .routes) ≡ 8 → length (wordsOf m) ≡ 152
+pub words-length : (m : Manager) → length (m .routes) ≡ 8 → length (wordsOf m) ≡ 160
 unfolding wordsOf
 words-length m e = omega (arith, routes-length (m .routes), e)
 
@@ -137,7 +138,7 @@ pub count-in : (m : Manager) → managerIn (wordsOf m) .count ≡ m .count
 unfolding wordsOf managerIn
 count-in m = refl
 
--- What has room in its words: octets in the packed places but the highest, and times below bit 31.
+-- What has room in its words: octets in the packed places but the highest, and an opening below bit 31.
 pub record HeldRelease (r : Release) : Type 0 where
   pub release : r .release < 256
   pub extension : r .extension < 256
@@ -147,7 +148,6 @@ pub record HeldRoute (r : Route) : Type 0 where
   pub filter : (length (r .settings .filter) ≡ 20) × Octets (r .settings .filter)
   pub release : HeldRelease (r .settings .release)
   pub opened : r .file .opened < 2147483648
-  pub appended : r .file .appended < 2147483648
   pub high : HeldRelease (r .file .high)
   pub low : HeldRelease (r .file .low)
 
@@ -229,13 +229,13 @@ route-words r rest h =
           };
       next = r .next;
       losses = r .losses;
-      note = flag-flagged (r .file .appended) (h .appended) (r .note) i;
+      unrouted = r .unrouted;
       «open» = flag-flagged (r .file .opened) (h .opened) (r .«open») i;
       file =
           record {
             sequence = r .file .sequence;
             opened = rest-flagged (r .file .opened) (h .opened) (r .«open») i;
-            appended = rest-flagged (r .file .appended) (h .appended) (r .note) i;
+            appended = r .file .appended;
             high = release-packed (r .file .format) (r .file .high) (h .high) i;
             low = release-packed (r .settings .flag) (r .file .low) (h .low) i;
             format = top-packed (r .file .format) (r .file .high) (h .high) i;
@@ -263,24 +263,24 @@ manager-words m h =
 -- Words stand for eight routes.
 routes-count : (xs : List ℕ) (n : ℕ) → length (routesIn xs n) ≡ n
 routes-count xs zero = refl
-routes-count xs (suc n) = ap suc (routes-count (drop 18 xs) n)
+routes-count xs (suc n) = ap suc (routes-count (drop 19 xs) n)
 
 pub routes-eight : (xs : List ℕ) → length (managerIn xs .routes) ≡ 8
 unfolding managerIn
 routes-eight xs = routes-count (drop 8 xs) 8
 
 -- A route of words is that of the state.
-pub route-at : (n : ℕ) (xs : List ℕ) (i : ℕ) → i < n → getD (routesIn xs n) i noRoute ≡ routeIn (drop (18 * i) xs)
+pub route-at : (n : ℕ) (xs : List ℕ) (i : ℕ) → i < n → getD (routesIn xs n) i noRoute ≡ routeIn (drop (19 * i) xs)
 route-at zero xs i h = absurd (omega arith)
 route-at (suc n) xs zero h = refl
-route-at (suc n) xs (suc i) h = route-at n (drop 18 xs) i (omega arith) ∙ ap routeIn (further i)
+route-at (suc n) xs (suc i) h = route-at n (drop 19 xs) i (omega arith) ∙ ap routeIn (further i)
   where
-    further : (i : ℕ) → drop (18 * i) (drop 18 xs) ≡ drop (18 * suc i) xs
-    further i = let e : 18 + 18 * i ≡ 18 * suc i = omega arith in drop-drop (18 * i) 18 xs ∙ ap (λ (k : ℕ). drop k xs) e
+    further : (i : ℕ) → drop (19 * i) (drop 19 xs) ≡ drop (19 * suc i) xs
+    further i = let e : 19 + 19 * i ≡ 19 * suc i = omega arith in drop-drop (19 * i) 19 xs ∙ ap (λ (k : ℕ). drop k xs) e
 
-pub route-in : (xs : List ℕ) (i : ℕ) → i < 8 → routeAt (managerIn xs) i ≡ routeIn (drop (8 + 18 * i) xs)
+pub route-in : (xs : List ℕ) (i : ℕ) → i < 8 → routeAt (managerIn xs) i ≡ routeIn (drop (8 + 19 * i) xs)
 unfolding managerIn
-route-in xs i h = route-at 8 (drop 8 xs) i h ∙ ap routeIn (drop-drop (18 * i) 8 xs)
+route-in xs i h = route-at 8 (drop 8 xs) i h ∙ ap routeIn (drop-drop (19 * i) 8 xs)
 
 -- A splice behind a list is one into what stands there.
 splice-one : (p : ℕ) (l : List ℕ) (k : ℕ) (ys : List ℕ) → splice (p ∷ l) (suc k) ys ≡ p ∷ splice l k ys
@@ -294,26 +294,26 @@ splice-past (p ∷ ps) xs n ys =
     ∙ splice-one p (ps ++ xs) (length ps + n) ys
     ∙ ap (λ (l : List ℕ). p ∷ l) (splice-past ps xs n ys)
 
--- What an event changes of a route is a splice of nine words.
+-- What an event changes of a route is a splice of ten words.
 changed-routes : (rs : List Route) (i : ℕ) (r : Route) → i < length rs → r .settings ≡ getD rs i noRoute .settings
-    → routesWords (set rs i r) ≡ splice (routesWords rs) (18 * i + 9) (changingWords r [])
+    → routesWords (set rs i r) ≡ splice (routesWords rs) (19 * i + 9) (changingWords r [])
 unfolding splice
 changed-routes [] i r h e = absurd (omega arith)
 changed-routes (q ∷ qs) zero r h e = ap (λ (s : RouteSettings). fixedWords s (changingWords r (routesWords qs))) e
 changed-routes (q ∷ qs) (suc i) r h e =
-    let k : 18 + (18 * i + 9) ≡ 18 * suc i + 9 = omega arith in
+    let k : 19 + (19 * i + 9) ≡ 19 * suc i + 9 = omega arith in
     ap (routeWords q) (changed-routes qs i r (omega arith) e)
-    ∙ sym (splice-past (routeWords q []) (routesWords qs) (18 * i + 9) (changingWords r []))
+    ∙ sym (splice-past (routeWords q []) (routesWords qs) (19 * i + 9) (changingWords r []))
     ∙ ap (λ (j : ℕ). splice (routesWords (q ∷ qs)) j (changingWords r [])) k
 
 pub changed-words : (m : Manager) (i : ℕ) (r : Route) → i < length (m .routes) → r .settings ≡ settingsAt m i
-    → wordsOf (withRoute m i r) ≡ splice (wordsOf m) (17 + 18 * i) (changingWords r [])
+    → wordsOf (withRoute m i r) ≡ splice (wordsOf m) (17 + 19 * i) (changingWords r [])
 unfolding wordsOf
 changed-words m i r h e =
     let head : List ℕ = nodeWords (nodeOf m) (m .count) (m .last ∷ m .unrouted ∷ []) in
-    let k : 8 + (18 * i + 9) ≡ 17 + 18 * i = omega arith in
+    let k : 8 + (19 * i + 9) ≡ 17 + 19 * i = omega arith in
     ap (λ (l : List ℕ). head ++ l) (changed-routes (m .routes) i r h e)
-    ∙ sym (splice-past head (routesWords (m .routes)) (18 * i + 9) (changingWords r []))
+    ∙ sym (splice-past head (routesWords (m .routes)) (19 * i + 9) (changingWords r []))
     ∙ ap (λ (j : ℕ). splice (head ++ routesWords (m .routes)) j (changingWords r [])) k
 
 -- The last time is the seventh word.
@@ -326,12 +326,12 @@ pub from-here : (xs : List ℕ) (at : ℕ) → take (length xs - at) (drop at xs
 from-here xs at = ap (λ (n : ℕ). take n (drop at xs)) (sym (length-drop at xs)) ∙ take-length (drop at xs)
 
 module _ (xs : List ℕ) (i : ℕ) (h : i < 8) where
-  pub part-route : routeIn (take (length xs - (8 + 18 * i)) (drop (8 + 18 * i) xs)) ≡ routeAt (managerIn xs) i
-  part-route = ap routeIn (from-here xs (8 + 18 * i)) ∙ sym (route-in xs i h)
+  pub part-route : routeIn (take (length xs - (8 + 19 * i)) (drop (8 + 19 * i) xs)) ≡ routeAt (managerIn xs) i
+  part-route = ap routeIn (from-here xs (8 + 19 * i)) ∙ sym (route-in xs i h)
 
-  pub part-settings : settingsIn (take (length xs - (8 + 18 * i)) (drop (8 + 18 * i) xs)) ≡ settingsAt (managerIn xs) i
+  pub part-settings : settingsIn (take (length xs - (8 + 19 * i)) (drop (8 + 19 * i) xs)) ≡ settingsAt (managerIn xs) i
   unfolding routeIn
-  part-settings = ap settingsIn (from-here xs (8 + 18 * i)) ∙ sym (ap (λ (r : Route). r .settings) (route-in xs i h))
+  part-settings = ap settingsIn (from-here xs (8 + 19 * i)) ∙ sym (ap (λ (r : Route). r .settings) (route-in xs i h))
 
 -- Two filters are the same exactly where their lengths and their words are.
 pub same-test : (a b : Bool) → (a ≡ true → b ≡ true) → (b ≡ true → a ≡ true) → a ≡ b
@@ -379,11 +379,11 @@ same-words xs ys p q =
     λ i. eqb (p i) (q i) && same-fives (getD xs 0 0) (getD xs 1 0) (getD xs 2 0) (getD xs 3 0) (getD xs 4 0) (getD ys 0 0) (getD ys 1 0) (getD ys 2 0) (getD ys 3 0) (getD ys 4 0) i
 
 -- All that an event leaves of one route and the time.
-pub left-words : (xs : List ℕ) → length xs ≡ 152 → (i : ℕ) → i < 8 → (r : Route) → r .settings ≡ settingsAt (managerIn xs) i → (t : ℕ)
-    → set (splice xs (17 + 18 * i) (changingWords r [])) 6 t ≡ wordsOf (withTime (withRoute (managerIn xs) i r) t)
+pub left-words : (xs : List ℕ) → length xs ≡ 160 → (i : ℕ) → i < 8 → (r : Route) → r .settings ≡ settingsAt (managerIn xs) i → (t : ℕ)
+    → set (splice xs (17 + 19 * i) (changingWords r [])) 6 t ≡ wordsOf (withTime (withRoute (managerIn xs) i r) t)
 left-words xs e i h r s t =
     let m = managerIn xs in
-    ap (λ (l : List ℕ). set (splice l (17 + 18 * i) (changingWords r [])) 6 t) (sym (words-words xs e))
+    ap (λ (l : List ℕ). set (splice l (17 + 19 * i) (changingWords r [])) 6 t) (sym (words-words xs e))
     ∙ ap (λ (l : List ℕ). set l 6 t) (sym (changed-words m i r (omega (arith, routes-eight xs)) s))
     ∙ sym (timed-words (withRoute m i r) t)
 
@@ -393,48 +393,48 @@ unfolding routeIn
 twenty xs i h = ap (λ (r : Route). length (r .settings .filter)) (route-in xs i h)
 
 -- One route after another is changed in the words xs, which began as zs: those from i on are as they were.
-module _ (xs zs : List ℕ) (i : ℕ) (same : drop (8 + 18 * i) xs ≡ drop (8 + 18 * i) zs) where
+module _ (xs zs : List ℕ) (i : ℕ) (same : drop (8 + 19 * i) xs ≡ drop (8 + 19 * i) zs) where
   -- so the route that is read is the first state's
   pub route-still : i < 8 → routeAt (managerIn xs) i ≡ routeAt (managerIn zs) i
   route-still h = route-in xs i h ∙ ap routeIn same ∙ sym (route-in zs i h)
 
-  pub next-still : drop (8 + 18 * (i + 1)) xs ≡ drop (8 + 18 * (i + 1)) zs
+  pub next-still : drop (8 + 19 * (i + 1)) xs ≡ drop (8 + 19 * (i + 1)) zs
   next-still =
-      let e : 8 + 18 * i + 18 ≡ 8 + 18 * (i + 1) = omega arith in
+      let e : 8 + 19 * i + 19 ≡ 8 + 19 * (i + 1) = omega arith in
       ap (λ (k : ℕ). drop k xs) (sym e)
-      ∙ sym (drop-drop 18 (8 + 18 * i) xs)
-      ∙ ap (drop 18) same
-      ∙ drop-drop 18 (8 + 18 * i) zs
+      ∙ sym (drop-drop 19 (8 + 19 * i) xs)
+      ∙ ap (drop 19) same
+      ∙ drop-drop 19 (8 + 19 * i) zs
       ∙ ap (λ (k : ℕ). drop k zs) e
 
   -- a change of the route i leaves the number of words, and those behind it
-  module _ (number : length xs ≡ 152) (h : i < 8) (r : Route) where
-    pub put-number : length (splice xs (17 + 18 * i) (changingWords r [])) ≡ 152
+  module _ (number : length xs ≡ 160) (h : i < 8) (r : Route) where
+    pub put-number : length (splice xs (17 + 19 * i) (changingWords r [])) ≡ 160
     put-number =
-        let room : 17 + 18 * i + 9 ≤ length xs = omega arith in
-        splice-length xs (17 + 18 * i) (changingWords r []) room ∙ number
+        let room : 17 + 19 * i + 10 ≤ length xs = omega arith in
+        splice-length xs (17 + 19 * i) (changingWords r []) room ∙ number
 
-    pub put-still : drop (8 + 18 * (i + 1)) (splice xs (17 + 18 * i) (changingWords r [])) ≡ drop (8 + 18 * (i + 1)) zs
+    pub put-still : drop (8 + 19 * (i + 1)) (splice xs (17 + 19 * i) (changingWords r [])) ≡ drop (8 + 19 * (i + 1)) zs
     put-still =
-        let starts : 17 + 18 * i ≤ length xs = omega arith in
-        splice-drop xs (17 + 18 * i) (changingWords r []) starts (8 + 18 * (i + 1)) (omega arith) ∙ next-still
+        let starts : 17 + 19 * i ≤ length xs = omega arith in
+        splice-drop xs (17 + 19 * i) (changingWords r []) starts (8 + 19 * (i + 1)) (omega arith) ∙ next-still
 
--- A whole route is a splice of its eighteen words, and the node with the number of routes one of six.
-filled-routes : (rs : List Route) (i : ℕ) (r : Route) → i < length rs → routesWords (set rs i r) ≡ splice (routesWords rs) (18 * i) (routeWords r [])
+-- A whole route is a splice of its nineteen words, and the node with the number of routes one of six.
+filled-routes : (rs : List Route) (i : ℕ) (r : Route) → i < length rs → routesWords (set rs i r) ≡ splice (routesWords rs) (19 * i) (routeWords r [])
 unfolding splice
 filled-routes [] i r h = absurd (omega arith)
 filled-routes (q ∷ qs) zero r h = refl
 filled-routes (q ∷ qs) (suc i) r h =
-    let k : 18 + 18 * i ≡ 18 * suc i = omega arith in
+    let k : 19 + 19 * i ≡ 19 * suc i = omega arith in
     ap (routeWords q) (filled-routes qs i r (omega arith))
-    ∙ sym (splice-past (routeWords q []) (routesWords qs) (18 * i) (routeWords r []))
+    ∙ sym (splice-past (routeWords q []) (routesWords qs) (19 * i) (routeWords r []))
     ∙ ap (λ (j : ℕ). splice (routesWords (q ∷ qs)) j (routeWords r [])) k
 
-pub filled-words : (m : Manager) (i : ℕ) (r : Route) → i < length (m .routes) → splice (wordsOf m) (8 + 18 * i) (routeWords r []) ≡ wordsOf (withRoute m i r)
+pub filled-words : (m : Manager) (i : ℕ) (r : Route) → i < length (m .routes) → splice (wordsOf m) (8 + 19 * i) (routeWords r []) ≡ wordsOf (withRoute m i r)
 unfolding wordsOf
 filled-words m i r h =
     let head : List ℕ = nodeWords (nodeOf m) (m .count) (m .last ∷ m .unrouted ∷ []) in
-    splice-past head (routesWords (m .routes)) (18 * i) (routeWords r []) ∙ sym (ap (λ (l : List ℕ). head ++ l) (filled-routes (m .routes) i r h))
+    splice-past head (routesWords (m .routes)) (19 * i) (routeWords r []) ∙ sym (ap (λ (l : List ℕ). head ++ l) (filled-routes (m .routes) i r h))
 
 pub node-words : (m : Manager) (n : Node) (count : ℕ)
     → splice (wordsOf m) 0 (nodeWords n count [])

@@ -1,4 +1,4 @@
--- The manager's state as words of 32 bits, which a gateway lends to each event and may keep as they are. 152 words:
+-- The manager's state as words of 32 bits, which a gateway lends to each event and may keep as they are. 160 words:
 --
 --   0 to 3   the node's address, four octets a word, the first octet the highest
 --   4        the node's UTC offset in minutes, plus 1,439
@@ -6,7 +6,7 @@
 --   6        the last time
 --   7        the unrouted records since fresh
 --
--- and from 8 on 18 words for each of eight routes, configured or not, route 0 first:
+-- and from 8 on 19 words for each of eight routes, configured or not, route 0 first:
 --
 --   0 to 4   the filter's twenty octets, four a word
 --   5        the filter's length, then the configured release, extension and version: an octet each
@@ -15,16 +15,17 @@
 --   8        the most records
 --   9        the next sequence number
 --   10       known losses since the last file closed
---   11       the open file's sequence number
---   12       its opening; bit 31: there is an open file
---   13       its last append; bit 31: the note of an unrouted record
---   14       the format of its records, then its high release, extension and version: an octet each
---   15       the flag, then its low release, extension and version: an octet each
---   16       the number of its records
---   17       their octets
+--   11       unrouted records since the last file closed
+--   12       the open file's sequence number
+--   13       its opening; bit 31: there is an open file
+--   14       its last append
+--   15       the format of its records, then its high release, extension and version: an octet each
+--   16       the flag, then its low release, extension and version: an octet each
+--   17       the number of its records
+--   18       their octets
 --
 -- No bit is without a meaning, so that words and the state that they stand for determine each other (Laws). An event changes words 9 to
--- 17 of a route (15 with the flag as it was), the last time and the unrouted records. Assumes nothing.
+-- 18 of a route (16 with the flag as it was), the last time and the unrouted records. Assumes nothing.
 use mathlib.Core.Bool.{Bool, cond}
 use mathlib.Core.List.{List, [], _∷_}
 use Prim.Native.Nat.{ℕ, zero, suc, _+_, _-_, _*_, _/_, _%_}
@@ -86,21 +87,21 @@ settingsIn xs =
       limit = getD xs 6 0;
       age = getD xs 7 0;
       most = getD xs 8 0;
-      flag = octet1 (getD xs 15 0);
+      flag = octet1 (getD xs 16 0);
       release = releaseIn (getD xs 5 0);
     }
 
 abbrev pub fileIn : List ℕ → OpenFile
 fileIn xs =
     record {
-      sequence = getD xs 11 0;
-      opened = restOf (getD xs 12 0);
-      appended = restOf (getD xs 13 0);
-      high = releaseIn (getD xs 14 0);
-      low = releaseIn (getD xs 15 0);
-      format = octet1 (getD xs 14 0);
-      count = getD xs 16 0;
-      octets = getD xs 17 0;
+      sequence = getD xs 12 0;
+      opened = restOf (getD xs 13 0);
+      appended = getD xs 14 0;
+      high = releaseIn (getD xs 15 0);
+      low = releaseIn (getD xs 16 0);
+      format = octet1 (getD xs 15 0);
+      count = getD xs 17 0;
+      octets = getD xs 18 0;
     }
 
 unfoldable pub routeIn : List ℕ → Route
@@ -109,15 +110,15 @@ routeIn xs =
       settings = settingsIn xs;
       next = getD xs 9 0;
       losses = getD xs 10 0;
-      note = flagOf (getD xs 13 0);
-      «open» = flagOf (getD xs 12 0);
+      unrouted = getD xs 11 0;
+      «open» = flagOf (getD xs 13 0);
       file = fileIn xs;
     }
 
 -- n routes, one behind another
 abbrev pub routesIn : List ℕ → ℕ → List Route
 routesIn xs zero = []
-routesIn xs (suc n) = routeIn xs ∷ routesIn (drop 18 xs) n
+routesIn xs (suc n) = routeIn xs ∷ routesIn (drop 19 xs) n
 
 -- the state
 unfoldable pub managerIn : List ℕ → Manager
@@ -161,9 +162,10 @@ abbrev pub changingWords : Route → List ℕ → List ℕ
 changingWords r rest =
     r .next
     ∷ r .losses
+    ∷ r .unrouted
     ∷ r .file .sequence
     ∷ flagged (r .«open») (r .file .opened)
-    ∷ flagged (r .note) (r .file .appended)
+    ∷ r .file .appended
     ∷ withRelease (r .file .format) (r .file .high)
     ∷ withRelease (r .settings .flag) (r .file .low)
     ∷ r .file .count

@@ -71,13 +71,13 @@ fn filter_in(a: u32, b: u32, c: u32, d: u32, e: u32) -> [u8; 20]
 
 // The settings of the route whose words these begin with.
 pub fn settings_in(part: &[u32]) -> RouteSettings
-    requires { ⌜ 18 ≤ length (now part) ⌝ }
+    requires { ⌜ 19 ≤ length (now part) ⌝ }
     ensures { λ r. ⌜ r ≡ settingsIn (now (part .entry)) ⌝ }
 {
     let filter = filter_in(part[0], part[1], part[2], part[3], part[4]);
     let octets = top_of(part[5]);
     let release = release_in(part[5]);
-    let flag = top_of(part[15]);
+    let flag = top_of(part[16]);
     RouteSettings {
         filter: filter,
         octets: octets,
@@ -91,59 +91,57 @@ pub fn settings_in(part: &[u32]) -> RouteSettings
 
 // Its file.
 pub fn file_in(part: &[u32]) -> OpenFile
-    requires { ⌜ 18 ≤ length (now part) ⌝ }
-    ensures { λ r. ⌜ (r ≡ fileIn (now (part .entry))) × (r .opened < 2147483648) × (r .appended < 2147483648) ⌝ }
+    requires { ⌜ 19 ≤ length (now part) ⌝ }
+    ensures { λ r. ⌜ (r ≡ fileIn (now (part .entry))) × (r .opened < 2147483648) ⌝ }
 {
-    let opened = rest_of(part[12]);
-    let appended = rest_of(part[13]);
-    let high = release_in(part[14]);
-    let low = release_in(part[15]);
-    let format = top_of(part[14]);
+    let opened = rest_of(part[13]);
+    let high = release_in(part[15]);
+    let low = release_in(part[16]);
+    let format = top_of(part[15]);
     OpenFile {
-        sequence: part[11],
+        sequence: part[12],
         opened: opened,
-        appended: appended,
+        appended: part[14],
         high: high,
         low: low,
         format: format,
-        count: part[16],
-        octets: part[17],
+        count: part[17],
+        octets: part[18],
     }
 }
 
 // The route itself.
 pub fn route_in(part: &[u32]) -> Route
-    requires { ⌜ 18 ≤ length (now part) ⌝ }
-    ensures { λ r. ⌜ (r ≡ routeIn (now (part .entry))) × (r .file .opened < 2147483648) × (r .file .appended < 2147483648) ⌝ }
+    requires { ⌜ 19 ≤ length (now part) ⌝ }
+    ensures { λ r. ⌜ (r ≡ routeIn (now (part .entry))) × (r .file .opened < 2147483648) ⌝ }
 {
     let settings = settings_in(part);
     let file = file_in(part);
-    let note = flag_of(part[13]);
-    let open = flag_of(part[12]);
+    let open = flag_of(part[13]);
     Route {
         settings: settings,
         next: part[9],
         losses: part[10],
-        note: note,
+        unrouted: part[11],
         open: open,
         file: file,
     }
 }
 
-// The route i, whose times have their flags taken off; and its settings alone.
+// The route i, whose opening has its flag taken off; and its settings alone.
 pub fn route_at(words: &[u32], i: usize) -> Route
-    requires { ⌜ (length (now words) ≡ 152) × (i < 8) ⌝ }
-    ensures { λ r. ⌜ (r ≡ routeAt (managerIn (now (words .entry))) i) × (r .file .opened < 2147483648) × (r .file .appended < 2147483648) ⌝ }
+    requires { ⌜ (length (now words) ≡ 160) × (i < 8) ⌝ }
+    ensures { λ r. ⌜ (r ≡ routeAt (managerIn (now (words .entry))) i) × (r .file .opened < 2147483648) ⌝ }
 {
-    let at = 8 + 18 * i;
+    let at = 8 + 19 * i;
     route_in(&words[at..])
 }
 
 pub fn settings_at(words: &[u32], i: usize) -> RouteSettings
-    requires { ⌜ (length (now words) ≡ 152) × (i < 8) ⌝ }
+    requires { ⌜ (length (now words) ≡ 160) × (i < 8) ⌝ }
     ensures { λ r. ⌜ r ≡ settingsAt (managerIn (now (words .entry))) i ⌝ }
 {
-    let at = 8 + 18 * i;
+    let at = 8 + 19 * i;
     settings_in(&words[at..])
 }
 
@@ -156,7 +154,7 @@ fn wide(w: u32) -> usize
 
 // How many routes are configured.
 pub fn count_of(words: &[u32]) -> usize
-    requires { ⌜ length (now words) ≡ 152 ⌝ }
+    requires { ⌜ length (now words) ≡ 160 ⌝ }
     ensures { λ r. ⌜ r ≡ managerIn (now (words .entry)) .count ⌝ }
 {
     wide(words[5])
@@ -164,7 +162,7 @@ pub fn count_of(words: &[u32]) -> usize
 
 // The node: its address from four words, and its offset.
 pub fn node_of(words: &[u32]) -> Node
-    requires { ⌜ length (now words) ≡ 152 ⌝ }
+    requires { ⌜ length (now words) ≡ 160 ⌝ }
     ensures { λ r. ⌜ r ≡ nodeOf (managerIn (now (words .entry))) ⌝ }
 {
     let address = address_in(words[0], words[1], words[2], words[3]);

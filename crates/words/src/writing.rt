@@ -41,23 +41,23 @@ fn with_release(top: u8, r: Release) -> u32
     packed(top, r.release, r.extension, r.version)
 }
 
-// The nine words of a route that an event may change.
-fn changing_words(r: Route) -> [u32; 9]
-    requires { ⌜ (r .file .opened < 2147483648) × (r .file .appended < 2147483648) ⌝ }
+// The ten words of a route that an event may change.
+fn changing_words(r: Route) -> [u32; 10]
+    requires { ⌜ r .file .opened < 2147483648 ⌝ }
     ensures { λ w. ⌜ w ≡ changingWords r [] ⌝ }
 {
     let f = r.file;
     let s = r.settings;
     let opened = flagged(r.open, f.opened);
-    let appended = flagged(r.note, f.appended);
     let high = with_release(f.format, f.high);
     let low = with_release(s.flag, f.low);
     [
         r.next,
         r.losses,
+        r.unrouted,
         f.sequence,
         opened,
-        appended,
+        f.appended,
         high,
         low,
         f.count,
@@ -79,17 +79,17 @@ pub fn copy(dst: &mut [u32], at: usize, src: &[u32])
 
 // Puts a route, whose settings are as they were, in the place of the route i.
 pub fn put_route(words: &mut [u32], i: usize, r: Route)
-    requires { ⌜ (length (now words) ≡ 152) × (i < 8) × (r .file .opened < 2147483648) × (r .file .appended < 2147483648) ⌝ }
-    ensures { λ _. ⌜ now (words .exit) ≡ splice (now (words .entry)) (17 + 18 * i) (changingWords r []) ⌝ }
+    requires { ⌜ (length (now words) ≡ 160) × (i < 8) × (r .file .opened < 2147483648) ⌝ }
+    ensures { λ _. ⌜ now (words .exit) ≡ splice (now (words .entry)) (17 + 19 * i) (changingWords r []) ⌝ }
 {
     let changed = changing_words(r);
-    copy(words, 17 + 18 * i, &changed);
+    copy(words, 17 + 19 * i, &changed);
 }
 
 // The same, and the time t as the last one.
 pub fn put(words: &mut [u32], i: usize, r: Route, t: u32)
-    requires { ⌜ (length (now words) ≡ 152) × (i < 8) × (r .file .opened < 2147483648) × (r .file .appended < 2147483648) ⌝ }
-    ensures { λ _. ⌜ now (words .exit) ≡ set (splice (now (words .entry)) (17 + 18 * i) (changingWords r [])) 6 t ⌝ }
+    requires { ⌜ (length (now words) ≡ 160) × (i < 8) × (r .file .opened < 2147483648) ⌝ }
+    ensures { λ _. ⌜ now (words .exit) ≡ set (splice (now (words .entry)) (17 + 19 * i) (changingWords r [])) 6 t ⌝ }
 {
     put_route(words, i, r);
     words[6] = t;

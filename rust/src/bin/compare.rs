@@ -1,8 +1,9 @@
-//! Compares the second reader and writer with the proved ones, those of file names too, in one
-//! process and from a fixed seed: prints how often each answer came, or the first difference and the
-//! file in hexadecimal.
+//! Compares the second reader and writer with the proved ones, those of loss counts and of file names
+//! too, in one process and from a fixed seed: prints how often each answer came, or the first
+//! difference and the file in hexadecimal.
 
 use leveehum::cdrname::{self, Writing};
+use leveehum::counts::{self, LossCounts};
 use leveehum::dates::{self, Dated};
 use leveehum::fields::Header;
 use leveehum::files::FAMILIES;
@@ -27,6 +28,16 @@ const DATE_ROUNDS: usize = 4;
 const WRITER_ROUNDS: usize = 200;
 const LONG_WRITER_ROUNDS: usize = 20;
 const RANDOM_STAMPS: usize = 1_000_000;
+/// Pairs of random numbers in private octets, beside the chosen ones.
+const RANDOM_COUNTS: usize = 500;
+
+/// What private octets are to a reader of loss counts.
+const PRIVATE: [&str; 4] = [
+    "counts",
+    "nine octets of another kind",
+    "another length",
+    "neither",
+];
 
 /// How often each answer came; 0 is an acceptance.
 type Tally = BTreeMap<u8, usize>;
@@ -50,6 +61,8 @@ struct Counts {
     /// Parts of files, by places within the file and forged ones.
     parts: usize,
     empty_parts: usize,
+    /// Private octets, by what they are of `PRIVATE`.
+    private: [usize; PRIVATE.len()],
     stamp: Tally,
     name: Tally,
     name_writer: Tally,
@@ -69,6 +82,7 @@ fn main() -> ExitCode {
         complete("writer", &counts.writer, &[0, 2, 10, 11, 13, 8, 17]),
         complete("step", &counts.step, &[0, 11]),
         counts.has_parts(),
+        counts.has_private(),
         complete("timestamp", &counts.stamp, &[0, 4, 2]),
         complete("name reader", &counts.name, &[0, 20]),
         complete("name writer", &counts.name_writer, &[0, 20, 21]),
@@ -101,6 +115,7 @@ fn run(counts: &mut Counts) -> Result<(), Difference> {
     }
     compare_dates(&mut random, counts)?;
     compare_writers(&mut random, counts)?;
+    compare_counts(&mut random, counts)?;
     compare_stamps(&mut random, &mut counts.stamp).map_err(|what| Difference {
         what,
         octets: Vec::new(),
@@ -126,6 +141,16 @@ impl Counts {
         } = self;
         println!("{:27} with octets {parts}, empty {empty_parts}", "part");
         *parts > 0 && *empty_parts > 0
+    }
+
+    /// Prints how many private octets were compared; whether there were all kinds of them.
+    fn has_private(&self) -> bool {
+        let kinds = PRIVATE.iter().zip(self.private);
+        let told: Vec<String> = kinds
+            .map(|(kind, times)| format!("{kind} {times}"))
+            .collect();
+        println!("{:27} {}", "private octets", told.join(", "));
+        !self.private.contains(&0)
     }
 }
 
@@ -182,6 +207,7 @@ fn compare_file(random: &mut Random, file: &[u8], counts: &mut Counts) -> Result
             for part in [read.filter, read.private, read.records] {
                 compare_part(file, part, counts)?;
             }
+            compare_private(&file[contents.private.clone()], counts)?;
             counts.records += walk_both(file, &contents)?;
             write_back(random, file, &contents, &mut counts.writer)?;
             Ok(0)
@@ -448,6 +474,58 @@ fn writer_difference(what: String, given: &Input) -> Difference {
         what,
         octets: given.records.clone(),
     }
+}
+
+/// Loss counts of chosen and of random numbers, and octets that are nearly such.
+fn compare_counts(random: &mut Random, counts: &mut Counts) -> Result<(), Difference> {
+    const NUMBERS: [u32; 8] = [0, 1, 127, 128, 255, 256, 40_000, u32::MAX];
+    for losses in NUMBERS {
+        for unrouted in NUMBERS {
+            compare_cuts(random, LossCounts { losses, unrouted }, counts)?;
+        }
+    }
+    for _ in 0..RANDOM_COUNTS {
+        let [losses, unrouted] = [random.word() as u32, random.word() as u32];
+        compare_cuts(random, LossCounts { losses, unrouted }, counts)?;
+    }
+    Ok(())
+}
+
+/// These counts behind each first octet that may mislead and behind any, as they are, cut and grown.
+fn compare_cuts(
+    random: &mut Random,
+    told: LossCounts,
+    counts: &mut Counts,
+) -> Result<(), Difference> {
+    for kind in [0, 1, 2, 255, random.octet()] {
+        let mut octets = told.octets().to_vec();
+        octets[0] = kind;
+        octets.extend(random.octets(3));
+        for length in 0..=octets.len() {
+            let private = &octets[..length];
+            let planned = (kind == 1 && length == counts::OCTETS).then_some(told);
+            same("second against plan", planned, LossCounts::read(private))
+                .and_then(|()| compare_private(private, counts))
+                .map_err(|what| Difference {
+                    what,
+                    octets: private.to_vec(),
+                })?;
+        }
+    }
+    Ok(())
+}
+
+/// What both sides read of loss counts in private octets.
+fn compare_private(private: &[u8], counts: &mut Counts) -> Result<(), String> {
+    let kind = match (private.len() == counts::OCTETS, private.first() == Some(&1)) {
+        (true, true) => 0,
+        (true, false) => 1,
+        (false, true) => 2,
+        (false, false) => 3,
+    };
+    counts.private[kind] += 1;
+    let expected = LossCounts::read(private).into();
+    same("loss counts", expected, proved::counts(private))
 }
 
 /// Timestamps: each day's ends, each offset, the ends of both, refused ones, and random ones.

@@ -1,17 +1,19 @@
 //! Compares the proved manager with the plain one on the words of forged states, in one process and
 //! from a fixed seed: all four events on states beyond each bound of refusal 18, on their neighbours
-//! within it, on random states and on fresh ones, on random words and on words of every wrong
-//! number. Answer, words, store and output must be the same. Prints how often each condition, kind
-//! of words, refusal and outcome came, or the first difference and the call on which it did.
+//! within it, on states with full counters, on random states and on fresh ones, on random words and
+//! on words of every wrong number. Answer, words, store and output must be the same. Prints how often
+//! each condition, full counter, kind of words, refusal and outcome came, or the first difference and
+//! the call on which it did.
 
 use leveehum::bounds;
 use leveehum::faults::FAULTS;
 use leveehum::forge;
+use leveehum::full::FULL;
 use leveehum::manager::{Manager, LONGEST_FILTER, NODE_OCTETS, ROUTE_OCTETS};
 use leveehum::proved;
 use leveehum::random::Random;
-use leveehum::states::{Answer, State};
-use leveehum::trials::{After, Event, Trial};
+use leveehum::states::{Answer, Route, State};
+use leveehum::trials::{self, After, Event, Trial};
 use leveehum::words::{Words, WORDS};
 use std::collections::BTreeMap;
 use std::fmt::{Debug, UpperHex};
@@ -19,8 +21,10 @@ use std::process::ExitCode;
 use std::time::Instant;
 
 const SEED: u64 = 0x3229_7000_2026_0005;
-/// Rounds over all conditions, states of each random kind, and rounds over all numbers of words.
+/// Rounds over all conditions and over all full counters, states of each random kind, and rounds over
+/// all numbers of words.
 const ROUNDS: usize = 700;
+const FULL_ROUNDS: usize = 400;
 const RANDOM_STATES: usize = 20_000;
 const NUMBER_ROUNDS: usize = 40;
 /// How often in such a round there is one word too many.
@@ -33,6 +37,17 @@ const SHOWN: usize = 4_096;
 /// Where a file has its closure reason.
 const REASON: usize = 26;
 const CLOSED_AT_ONCE: &str = "RECEIVE opened a file and closed it";
+
+/// The counters of refusal 19, by which of them refused.
+const LOSSES: &str = "known losses";
+const MANAGER: &str = "unrouted, the manager's alone";
+const ROUTE: &str = "unrouted, a route's alone";
+const BOTH: &str = "unrouted, the manager's and a route's";
+const UNJUDGED: &str = "unrouted with an unconfigured route full";
+
+/// What a record would come to on a state with full counters.
+const UNROUTED_RECORD: &str = "unrouted";
+const LOST_RECORD: &str = "lost";
 
 /// The words of states within the bounds, and words of which each is any.
 const RIGHT: &str = "right words";
@@ -50,6 +65,8 @@ struct Counts {
     /// Calls on states within the bounds: the neighbours of such, and those with the same fault
     /// where it is not judged.
     kept: Tally,
+    /// Records on states with full counters, by these and by what the record would come to.
+    full: Tally,
     /// Calls on forged words, by their kind.
     words: Tally,
     events: Tally,
@@ -78,6 +95,9 @@ fn main() -> ExitCode {
 fn run(random: &mut Random, counts: &mut Counts) -> Result<(), String> {
     for _ in 0..ROUNDS {
         compare_faults(random, counts)?;
+    }
+    for _ in 0..FULL_ROUNDS {
+        compare_full(random, counts)?;
     }
     for index in 0..RANDOM_STATES {
         let routes = forge::count(random);
@@ -108,6 +128,36 @@ fn compare_faults(random: &mut Random, counts: &mut Counts) -> Result<(), String
             let calls = compare_planned(random, state, &[], counts)?;
             add(&mut counts.kept, fault.name, calls);
         }
+    }
+    Ok(())
+}
+
+/// An unrouted record and a lost one on states with full counters, answered as planned, and all four
+/// events on these states.
+fn compare_full(random: &mut Random, counts: &mut Counts) -> Result<(), String> {
+    for full in &FULL {
+        let (state, at) = full.state(random);
+        let unrouted = trials::unrouted(random, &state);
+        let lost = trials::lost(random, &state.routes[at]);
+        let records = [
+            (UNROUTED_RECORD, unrouted, full.refuses_unrouted, 4),
+            (LOST_RECORD, lost, full.refuses_lost, 3),
+        ];
+        for (kind, record, is_refused, outcome) in records {
+            let planned = if is_refused { (19, 0) } else { (0, outcome) };
+            let trial = Trial::receiving(random, &state, record);
+            let answer = trial.expected().answer;
+            if (answer.refusal, answer.outcome) != planned {
+                let name = full.name;
+                return Err(format!(
+                    "full: {name}, {kind}: planned {planned:?}, plain {answer:?}\n{}",
+                    shown(&trial)
+                ));
+            }
+            compare_trials(&[trial], counts)?;
+            add(&mut counts.full, &with_full(full.name, kind), 1);
+        }
+        compare_planned(random, &state, &[], counts)?;
     }
     Ok(())
 }
@@ -321,7 +371,7 @@ fn times(tally: &Tally, name: &str) -> usize {
 fn print_tally(tally: &Tally, names: &[impl AsRef<str>]) -> Vec<usize> {
     let print = |name: &str| {
         let came = times(tally, name);
-        println!("  {name:40} {came:6}");
+        println!("  {name:52} {came:6}");
         came
     };
     names.iter().map(|name| print(name.as_ref())).collect()
@@ -344,12 +394,13 @@ fn numbered(kind: &str, number: usize) -> String {
 /// Everything else that must come at some call.
 fn expected_events() -> Vec<String> {
     let refusals = [4, 5, 6, 7, 14, 15, 16, 17, 18].map(refused);
-    let full = ["losses", "unrouted"].map(refused_19);
+    let full = [LOSSES, MANAGER, ROUTE, BOTH].map(refused_19);
     let outcomes = [1, 2, 3, 4, 5, 6].map(|outcome| format!("outcome {outcome}"));
-    let rises = ["losses", "unrouted"].map(risen);
+    let rises = [LOSSES, "the manager's unrouted", "a route's unrouted"].map(risen);
+    let told = ["known losses", "unrouted records"].map(told);
     let reasons = [1, 3, 5].map(closed_with);
-    let at_once = [CLOSED_AT_ONCE.to_owned()];
-    let mut names = [&refusals[..], &full, &outcomes, &rises, &reasons, &at_once].concat();
+    let mut names = [&refusals[..], &full, &outcomes, &rises, &told, &reasons].concat();
+    names.extend([UNJUDGED, CLOSED_AT_ONCE].map(str::to_owned));
     names.extend((0..=8).map(ticked));
     names.extend((0..=3).map(loaded_with));
     names
@@ -367,6 +418,14 @@ fn risen(counter: &str) -> String {
     format!("{counter} rose to 4,294,967,295")
 }
 
+fn told(counter: &str) -> String {
+    format!("CLOSE told 4,294,967,295 {counter}")
+}
+
+fn with_full(name: &str, kind: &str) -> String {
+    format!("{name}, {kind}")
+}
+
 fn closed_with(reason: u8) -> String {
     format!("RECEIVE closed a file with {reason}")
 }
@@ -382,20 +441,61 @@ fn loaded_with(refusal: u8) -> String {
     }
 }
 
-/// The counter that refused with 19: with the other one at 0 it does so still.
+/// The counter that refused with 19: with the others at 0 it does so still.
 fn full_counter(trial: &Trial, state: &State) -> &'static str {
-    let unrouted_0 = State {
+    let is_refused = |state: State| {
+        let other = Trial {
+            words: state.words().to_vec(),
+            ..trial.clone()
+        };
+        other.expected().answer.refusal == 19
+    };
+    let mut routes_0 = *state;
+    for route in &mut routes_0.routes {
+        route.unrouted = 0;
+    }
+    let manager_0 = State {
         unrouted: 0,
         ..*state
     };
-    let other = Trial {
-        words: unrouted_0.words().to_vec(),
-        ..trial.clone()
+    let both_0 = State {
+        unrouted: 0,
+        ..routes_0
     };
-    match other.expected().answer.refusal {
-        19 => "losses",
-        _ => "unrouted",
+    if is_refused(both_0) {
+        return LOSSES;
     }
+    match [routes_0, manager_0].map(is_refused) {
+        [true, true] => BOTH,
+        [true, false] => MANAGER,
+        [false, _] => ROUTE,
+    }
+}
+
+/// What came with an unrouted record that was accepted.
+fn unrouted(before: &State, behind: &State) -> Vec<String> {
+    let is_full = |route: &Route| route.unrouted == u32::MAX;
+    let unconfigured = &before.routes[before.configured().len()..];
+    let came = [
+        (risen("the manager's unrouted"), behind.unrouted == u32::MAX),
+        (
+            risen("a route's unrouted"),
+            behind.configured().iter().any(is_full),
+        ),
+        (UNJUDGED.to_owned(), unconfigured.iter().any(is_full)),
+    ];
+    let came = came.into_iter().filter(|(_, came)| *came);
+    came.map(|(name, _)| name).collect()
+}
+
+/// The full counters that a file of this route tells at its closing.
+fn told_in_full(route: &Route) -> Vec<String> {
+    let counters = [
+        ("known losses", route.losses),
+        ("unrouted records", route.unrouted),
+    ];
+    let full = counters.iter().filter(|(_, count)| *count == u32::MAX);
+    full.map(|(name, _)| told(name)).collect()
 }
 
 /// What came at a call.
@@ -421,8 +521,9 @@ fn events(trial: &Trial, after: &After) -> Vec<String> {
     match outcome {
         2 if files == 1 && !was_open => names.push(CLOSED_AT_ONCE.to_owned()),
         2 if files == 1 => names.push(closed_with(after.output[REASON])),
-        3 if losses == u32::MAX => names.push(risen("losses")),
-        4 if behind.unrouted == u32::MAX => names.push(risen("unrouted")),
+        3 if losses == u32::MAX => names.push(risen(LOSSES)),
+        4 => names.extend(unrouted(&before, &behind)),
+        5 => names.extend(told_in_full(&before.routes[route])),
         6 => names.push(ticked(files)),
         _ => {}
     }
@@ -445,8 +546,22 @@ impl Counts {
         println!("calls on states that break a condition alone, and on such as keep it:");
         for name in bounds::conditions() {
             let [broken, kept] = [&self.broken, &self.kept].map(|tally| times(tally, name));
-            println!("  {name:40} {broken:6} {kept:6}");
+            println!("  {name:52} {broken:6} {kept:6}");
             all.extend([broken, kept]);
+        }
+        println!("unrouted and lost records on states with counters at 4,294,967,295, by these:");
+        for full in &FULL {
+            let kinds = [
+                (UNROUTED_RECORD, full.refuses_unrouted),
+                (LOST_RECORD, full.refuses_lost),
+            ];
+            for (kind, is_refused) in kinds {
+                let name = with_full(full.name, kind);
+                let came = times(&self.full, &name);
+                let answer = if is_refused { "refused 19" } else { "accepted" };
+                println!("  {name:52} {came:6} {answer}");
+                all.push(came);
+            }
         }
         println!("calls on forged words:");
         all.extend(print_tally(&self.words, &expected_words()));

@@ -7,7 +7,7 @@
 //!
 //! The proved program is `../target/bin/cdrgate`, or what CDRGATE_BIN names.
 
-use leveehum::audit::{audit, Counts, Tally};
+use leveehum::audit::{audit, Counts, Tally, TOLD};
 use leveehum::gate;
 use leveehum::manager::MOST_ROUTES;
 use leveehum::program::{contents, ended_lines, lessons, proved_program, run_proved};
@@ -142,7 +142,13 @@ fn compare_random(count: usize) -> Result<(), String> {
         counts.records,
         counts.most_files
     );
+    println!(
+        "{} balances of a route's losses, {} with some told and some pending",
+        counts.balances, counts.full_balances
+    );
     let complete = [
+        complete_told(&counts.told),
+        counts.full_balances > 0,
         complete("refusals", &counts.refusals, &REFUSALS),
         complete("outcomes", &counts.outcomes, &OUTCOMES),
         complete("closure reasons", &counts.reasons, &REASONS),
@@ -151,7 +157,9 @@ fn compare_random(count: usize) -> Result<(), String> {
     ];
     println!("{:.1} seconds", start.elapsed().as_secs_f64());
     if complete.contains(&false) {
-        return Err("a number or eight files at once never came, or a run did not end".to_owned());
+        return Err(
+            "a number, a loss or eight files at once never came, or a run did not end".to_owned(),
+        );
     }
     println!("no difference");
     Ok(())
@@ -169,6 +177,16 @@ fn complete(name: &str, tally: &Tally, expected: &[u32]) -> bool {
         .collect();
     println!("{name:16} {}", shown.join(", "));
     expected.iter().all(|number| tally.contains_key(number))
+}
+
+/// Prints how many files told each kind of losses; whether some did.
+fn complete_told(told: &[usize; TOLD.len()]) -> bool {
+    let kinds = TOLD.iter().zip(told);
+    let shown: Vec<String> = kinds
+        .map(|((kind, _), times)| format!("{kind}: {times}"))
+        .collect();
+    println!("{:16} {}", "files that told", shown.join(", "));
+    !told.contains(&0)
 }
 
 /// Gives scripts to one process, one behind another; each has a manager of its own.

@@ -68,7 +68,7 @@ impl Route {
             region,
             next: route.next,
             losses: route.losses,
-            note: route.note,
+            unrouted: route.unrouted,
             file: route.open.then(|| OpenFile::from_state(&route.file)),
         }
     }
@@ -89,7 +89,7 @@ impl Route {
         states::Route {
             next: self.next,
             losses: self.losses,
-            note: self.note,
+            unrouted: self.unrouted,
             open: self.file.is_some(),
             file: match &self.file {
                 Some(file) => file.state(),
@@ -108,7 +108,7 @@ impl OpenFile {
         Self {
             sequence: file.sequence,
             opened: file.opened.get(),
-            appended: file.appended.get(),
+            appended: file.appended,
             high: rank(file.high),
             low: rank(file.low),
             format: file.format,
@@ -121,7 +121,7 @@ impl OpenFile {
         states::OpenFile {
             sequence: self.sequence,
             opened: Minute::lower(self.opened),
-            appended: Minute::lower(self.appended),
+            appended: self.appended,
             high: release(self.high),
             low: release(self.low),
             format: self.format,

@@ -20,22 +20,25 @@ header-for-requires c κs = search needs
 cast-octets : tie.Need-cast-octets
 cast-octets c = search needs
 
+octets-of-requires : tie.Need-octets-of-requires
+octets-of-requires c κs = search needs
+
 cast-end : tie.Need-cast-end
 cast-end c = search needs
 
 add-end : tie.Need-add-end
 add-end c =
-    let s = c .before .before .before .before .before .before in
+    let s = c .before .before .before .before .before .before .before in
     omega (arith, s .pre .records, s .good .1 .1 .1 .1 .0)
 
 array-share-prefix-filter : tie.Need-array-share-prefix-filter
 array-share-prefix-filter c =
-    let s = c .before .before .before .before .before .before in
+    let s = c .before .before .before .before .before .before .before in
     omega (arith, s .pre .filter, twenty s)
 
 slice-aggregate-lay-out : tie.Need-slice-aggregate-lay-out
 slice-aggregate-lay-out c =
-    let s = c .before .before .before .before .before .before .before in
+    let s = c .before .before .before .before .before .before .before .before in
     let f = s .args .r .settings in
     sym (length-take-le (f .octets) (f .filter) (omega (arith, s .pre .filter, twenty s)))
 
@@ -65,11 +68,12 @@ part-lay-out-end-2 c = search needs
 
 lay-out-requires : tie.Need-lay-out-requires
 lay-out-requires c κs =
-    let h = c .before .before .before .before .before .before .before .before in
+    let o = c .before .before .before .before .before .before in
+    let h = o .before .before .before in
     let s = h .before .before .before in
     let a = s .args in
     let n : a .base + a .r .file .octets - a .base ≡ a .r .file .octets = omega arith in
-    layable (a .n) (a .r) (a .reason) (a .store .now) (a .base) (a .output .now) (a .at) (a .lost) (s .pre) (twenty s) (h .header-for .ensures) n
+    layable (a .n) (a .r) (a .reason) (a .store .now) (a .base) (a .output .now) (a .at) (a .lost) (s .pre) (twenty s) (h .header-for .ensures) (o .octets-of .ensures) n
 
 same-length : tie.Need-same-length
 same-length c = search needs
@@ -77,11 +81,12 @@ same-length c = search needs
 returns : tie.Need-returns
 returns c =
     let l = c .before .before in
-    let h = l .before .before .before .before .before .before .before .before .before in
+    let o = l .before .before .before .before .before .before .before in
+    let h = o .before .before .before in
     let s = h .before .before .before in
     let a = s .args in
     let n : a .base + a .r .file .octets - a .base ≡ a .r .file .octets = omega arith in
-    closed (a .n) (a .r) (a .reason) (a .store .now) (a .base) (a .output .now) (a .at) (a .lost) (s .pre) (twenty s) (h .header-for .ensures) n (l .lay-out .ensures)
+    closed (a .n) (a .r) (a .reason) (a .store .now) (a .base) (a .output .now) (a .at) (a .lost) (s .pre) (twenty s) (h .header-for .ensures) (o .octets-of .ensures) n (l .lay-out .ensures)
 
 pub close-into-spec : {M : Type 1} → statement M
 close-into-spec =
@@ -89,6 +94,7 @@ close-into-spec =
     (tie.spec
     header-for-requires
     cast-octets
+    octets-of-requires
     cast-end
     add-end
     array-share-prefix-filter

@@ -60,7 +60,7 @@ abbrev at : tie.Else4 → ℕ
 at c = c .before .before .routed-to .result .at
 
 -- the words are as many as a state has
-right : (c : tie.Else1) → length (from1 c .args .words .now) ≡ 152
+right : (c : tie.Else1) → length (from1 c .args .words .now) ≡ 160
 right c = c .if1 .left
 
 passed : (c : tie.Else2) → first (common (state (from2 c)) (length (from2 c .args .store .now)) (from2 c .args .time) []) ≡ 0
@@ -96,7 +96,7 @@ there c = omega (arith, few c, routes-eight (start c .args .words .now))
 reading : (c : tie.After-route-at) → ReadAt (start (c .before .before .before) .args .words .now) (at (c .before .before .before)) (c .route-at .result)
 reading c =
     let g = c .before .before .before in
-    record { number = right (behind2 (behind3 (behind4 g))); there = few g; route = c .route-at .ensures .0; opened = c .route-at .ensures .1; appended = c .route-at .ensures .2 }
+    record { number = right (behind2 (behind3 (behind4 g))); there = few g; route = c .route-at .ensures .0; opened = c .route-at .ensures .1 }
 
 lost-is : (c : tie.After-is-lost) → c .is-lost .result ≡ isLost (state (start (c .before .before .before .before))) (start (c .before .before .before .before) .args .a) (at (c .before .before .before .before)) (length (start (c .before .before .before .before) .args .body .now))
 lost-is c =
@@ -287,7 +287,7 @@ put-requires c κs =
     let g = r .before .before .before in
     let route = route-left q (not-false _ (c .before .if6 .left)) in
     let times = finished-early (r .route-at .result) (g .before .before .before .before .effective-time .result) (r .route-at .ensures .1) (omega (arith, ready h .time)) (from2 (behind3 (behind4 g)) .args .a) (length (from2 (behind3 (behind4 g)) .args .body .now)) in
-    (right (behind2 (behind3 (behind4 g))), few g, omega (arith, ap (λ (x : Route). x .file .opened) route, times .0), omega (arith, ap (λ (x : Route). x .file .appended) route, times .1))
+    (right (behind2 (behind3 (behind4 g))), few g, omega (arith, ap (λ (x : Route). x .file .opened) route, times))
 
 accept-requires : tie.Need-accept-requires
 accept-requires c κs = search needs

@@ -46,7 +46,7 @@ copy-requires : tie.Need-copy-requires Inv-loop μ-loop
 copy-requires c κs =
     let l = c .before .before .before .before .loop in
     let s = c .before .before .before .before .before .before in
-    let wide : length (c .before .before .route-words .result) ≡ 18 = ap length (c .before .before .route-words .ensures) in
+    let wide : length (c .before .before .route-words .result) ≡ 19 = ap length (c .before .before .route-words .ensures) in
     omega (arith, wide, blank-length (s .args .octets .now) (l .i) (l .inv .1), c .before .before .before .loop-test .taken, s .pre .0)
 
 add-i : tie.Need-add-i Inv-loop μ-loop

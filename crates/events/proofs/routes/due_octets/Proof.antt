@@ -1,5 +1,5 @@
--- `events::routes::due_octets` meets its contract: the two ways are the definition's, and a header of at most 52 octets and a
--- filter's 255, with record octets of 32 bits, bound the size. Assumes nothing.
+-- `events::routes::due_octets` meets its contract: the two ways are the definition's, and a header of few octets, with record
+-- octets of 32 bits, bounds the size. Assumes nothing.
 use mathlib.Core.Path.{sym, ap, _∙_}
 use mathlib.Core.Bool.{Bool, cond}
 use native.Mathlib.Omega.{arith}
@@ -19,9 +19,10 @@ returns : tie.Need-returns
 returns c =
     let a = c .before .before .before .args in
     let f = a .r .file in
+    let wide = c .before .before .before .good .1 .0 .1 .1 .1 .1 .1 .1 .1 .0 .1 .1 .1 .1 .1 .1 .1 .1 .1 .0 in
     let due = sym (c .if1 .taken) ∙ c .before .is-due .ensures in (
       c .before .before .closed-size .ensures ∙ ap (λ (b : Bool). cond b (closedSize (a .r)) 0) due,
-      omega (arith, size-most (a .r .settings .octets) (f .high) (f .low)),
+      omega (arith, size-most (a .r .settings .octets) (f .high) (f .low), wide),
     )
 
 returns-2 : tie.Need-returns-2

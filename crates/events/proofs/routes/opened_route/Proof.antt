@@ -15,7 +15,7 @@ returns c =
       settings = a .r .settings;
       next = c .wrapping-add-u32 .ensures i;
       losses = a .r .losses;
-      note = a .r .note;
+      unrouted = a .r .unrouted;
       «open» = true;
       file = openedFile (a .r .settings) (a .r .next) (a .t);
     }

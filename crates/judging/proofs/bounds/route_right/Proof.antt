@@ -25,7 +25,7 @@ returns c =
     let a = c .before .before .before .before .before .args in
     let xs = a .part .now in
     let right = settingsRight (settingsIn xs) in
-    let closed : flagOf (getD xs 12 0) ≡ false = sym (c .before .flag-of .ensures) ∙ not-true _ (c .if1 .taken) in
+    let closed : flagOf (getD xs 13 0) ≡ false = sym (c .before .flag-of .ensures) ∙ not-true _ (c .if1 .taken) in
     c .before .before .before .settings-right .ensures
     ∙ sym (and-true right)
     ∙ ap (λ (b : Bool). right && (not b || fileRight (a .last) (settingsIn xs) (fileIn xs))) (sym closed)
@@ -44,7 +44,7 @@ unfolding routeIn
 returns-2 c =
     let a = c .before .before .before .before .before .before .before .before .args in
     let xs = a .part .now in
-    let is-open : true ≡ flagOf (getD xs 12 0) = sym (not-false _ (c .before .before .before .if1 .left)) ∙ c .before .before .before .before .flag-of .ensures in
+    let is-open : true ≡ flagOf (getD xs 13 0) = sym (not-false _ (c .before .before .before .if1 .left)) ∙ c .before .before .before .before .flag-of .ensures in
     let file = c .file-right .ensures ∙ (λ i. fileRight (a .last) (c .before .before .settings-in .ensures i) (c .before .file-in .ensures .0 i)) in
     (λ i. c .before .before .before .before .before .before .settings-right .ensures i && (not (is-open i) || file i))
 

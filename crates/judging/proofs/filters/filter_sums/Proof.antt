@@ -55,7 +55,7 @@ loop-again : tie.Need-loop-again Inv-loop μ-loop
 loop-again c =
     let l = c .before .before .before .loop in
     let xs = c .before .before .before .before .before .args .words .now in
-    let sum = c .filter-sum .ensures ∙ ap filterSum (from-here xs (8 + 18 * l .i)) in
+    let sum = c .filter-sum .ensures ∙ ap filterSum (from-here xs (8 + 19 * l .i)) in
     (search needs, length-set (l .sums) (l .i) (c .filter-sum .result) ∙ l .inv .1, sums-more xs (l .sums) (l .i) (c .filter-sum .result) (omega arith) sum (l .inv .2))
 
 returns : tie.Need-returns Inv-loop μ-loop

@@ -31,7 +31,7 @@ abbrev start : tie.Else2 → tie.Start
 start c = c .before .before .before .before .before .before .before
 
 -- the words are as many as a state has
-right : (c : tie.Else1) → length (c .before .before .before .before .args .words .now) ≡ 152
+right : (c : tie.Else1) → length (c .before .before .before .before .args .words .now) ≡ 160
 right c = c .if1 .left
 
 -- none of the first refusals applies
@@ -141,7 +141,7 @@ closed-route-requires c κs = search needs
 put-requires : tie.Need-put-requires
 put-requires c κs =
     let file = c .before .closed-route .ensures in
-    (right (c .before .before .before .before .before .before .before .before .before .before .before .before .before .before .before .before .before .before .before .before), there (c .before .before .before .before .before .before .before .before .before .before .before .before .before .before .before .before .before), omega (arith, ap (λ (r : Route). r .file .opened) file), omega (arith, ap (λ (r : Route). r .file .appended) file))
+    (right (c .before .before .before .before .before .before .before .before .before .before .before .before .before .before .before .before .before .before .before .before), there (c .before .before .before .before .before .before .before .before .before .before .before .before .before .before .before .before .before), omega (arith, ap (λ (r : Route). r .file .opened) file))
 
 cast-accept : tie.Need-cast-accept
 cast-accept c = omega (arith, there (c .before .before .before .before .before .before .before .before .before .before .before .before .before .before .before .before .before .before .before .before))

@@ -31,7 +31,7 @@ abbrev start : tie.Else2 → tie.Start
 start c = c .before .before .before .before .before .before .before
 
 -- the words are as many as a state has
-right : (c : tie.Else1) → length (c .before .before .before .before .args .words .now) ≡ 152
+right : (c : tie.Else1) → length (c .before .before .before .before .args .words .now) ≡ 160
 right c = c .if1 .left
 
 -- none of the refusals applies
@@ -98,7 +98,7 @@ put-requires c κs =
     let file = c .before .opened-route .ensures in
     let t = early e in
     let l = time-is d in
-    (search needs, there e, omega (arith, ap (λ (r : Route). r .file .opened) file, t, l), omega (arith, ap (λ (r : Route). r .file .appended) file, t, l))
+    (search needs, there e, omega (arith, ap (λ (r : Route). r .file .opened) file, t, l))
 
 cast-accept : tie.Need-cast-accept
 cast-accept c = omega (arith, there (c .before .before .before .before .before .before .before .before .before))

@@ -10,11 +10,10 @@ use Rattle.octets.specs.Splice.{splice}
 use Rattle.state.specs.declared.Route.{Route}
 use Rattle.state.specs.Manager.{Manager}
 use Rattle.state.specs.Manager.{routeAt, base, nodeOf}
-use Rattle.state.specs.Loss.{indicator}
 use Rattle.state.specs.Regions.{region-within}
 use Rattle.words.specs.Words.{managerIn, wordsOf}
 use Rattle.words.specs.Laws.{twenty}
-use Rattle.filing.specs.Closing.{closedSize}
+use Rattle.filing.specs.Closing.{lostOctet, closedSize}
 use Rattle.filing.specs.Closed.{closed-length}
 use Rattle.filing.specs.Needs.{Closable}
 use Rattle.events.specs.Rules.{closedRoute, due}
@@ -55,7 +54,7 @@ closable : (c : tie.After-route-at Inv-loop μ-loop)
     → let l = c .before .before .before .loop in
     let r = routeAt (state (start c)) (l .i) in
     due (start c .args .t) r ≡ true
-    → Closable (nodeOf (state (start c))) r (indicator (r .losses) (r .note)) (start c .args .store .now) (base (state (start c)) (l .i)) (l .output) (l .at)
+    → Closable (nodeOf (state (start c))) r (lostOctet r) (start c .args .store .now) (base (state (start c)) (l .i)) (l .output) (l .at)
 closable c e = ready _ _ _ _ _ (c .before .before .before .loop .inv .1) (c .before .before .loop-test .taken) e (start c .pre .1)
 
 node-of-requires : tie.Need-node-of-requires Inv-loop μ-loop
@@ -87,7 +86,7 @@ put-route-requires c κs =
     let e = c .before .before .before .before .before .before .before .before .before in
     let l = e .before .before .before .loop in
     let file = c .before .closed-route .ensures in
-    (l .inv .1 .number, below e, omega (arith, ap (λ (r : Route). r .file .opened) file), omega (arith, ap (λ (r : Route). r .file .appended) file))
+    (l .inv .1 .number, below e, omega (arith, ap (λ (r : Route). r .file .opened) file))
 
 add-at : tie.Need-add-at Inv-loop μ-loop
 add-at c =

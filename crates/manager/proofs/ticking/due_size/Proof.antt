@@ -14,7 +14,7 @@ use Rattle.manager.proofs.ticking.due_size.Statement.{statement}
 use Rattle.manager.proofs.ticking.due_size.Tie as tie
 
 abbrev Inv-loop : tie.InvT-loop
-Inv-loop words t n size₀ i₀ size i = (i ≤ n) × (size ≡ dueSize (managerIn words) t i) × (size ≤ i * 4294967602)
+Inv-loop words t n size₀ i₀ size i = (i ≤ n) × (size ≡ dueSize (managerIn words) t i) × (size ≤ i * 8589934592)
 
 abbrev μ-loop : tie.MeasureT-loop
 μ-loop words t n size₀ i₀ size i = n - i

@@ -16,18 +16,18 @@ cast-limit c = search needs
 cast-used : tie.Need-cast-used
 cast-used c = search needs
 
-close-if-requires : tie.Need-close-if-requires
-close-if-requires c κs = search needs
+close-turned-requires : tie.Need-close-turned-requires
+close-turned-requires c κs = search needs
 
 append-requires : tie.Need-append-requires
 append-requires c κs = search needs
 
-close-if-requires-2 : tie.Need-close-if-requires-2
-close-if-requires-2 c κs = λ e.
+close-filled-requires : tie.Need-close-filled-requires
+close-filled-requires c κs = λ e.
     let a = c .before .before .before .before in
     let o = a .before .before .before .before in
     let n = o .before .before .before .before .before in
-    closable-kept (n .size-if .ensures .0) (a .append .kept .0) (o .close-if .kept .1 .1 .1 .1 .1 .1 .0) (n .before .before .before .before .pre .behind e)
+    closable-kept (n .size-if .ensures .0) (a .append .kept .0) (o .close-turned .kept .1 .1 .1 .1 .1 .1 .0) (n .before .before .before .before .pre .behind e)
 
 same-length : tie.Need-same-length
 same-length c = search needs
@@ -45,7 +45,7 @@ returns c =
     let twenty : length (x .r .settings .filter) ≡ 20 = sym (length-map (x .r .settings .filter) _) ∙ s .good .1 .1 .1 .1 .0 .1 .1 .0 .1 .1 .0 .1 .0 .1 in (
       a .append .ensures,
       carried-made (x .n) (x .from) (x .store .now) (x .output .now) (x .r) (x .p) (x .h) (x .body .now) (s .pre) twenty _ (n .size-if .ensures .0)
-          (o .close-if .ensures) (c .before .before .close-if2 .ensures),
+          (o .close-turned .ensures) (c .before .before .close-filled .ensures),
     )
 
 pub carry-out-spec : {M : Type 1} → statement M
@@ -55,9 +55,9 @@ carry-out-spec =
     size-if-requires
     cast-limit
     cast-used
-    close-if-requires
+    close-turned-requires
     append-requires
-    close-if-requires-2
+    close-filled-requires
     same-length
     same-length-2
     returns)

@@ -17,7 +17,7 @@ add-r c = search needs
 put-requires : tie.Need-put-requires
 put-requires c κs =
     let p = c .before .before .before .before .before .pre in
-    (p .number, p .there, p .opened, p .appended)
+    (p .number, p .there, p .opened)
 
 cast-accept : tie.Need-cast-accept
 cast-accept c = search needs

@@ -1,6 +1,5 @@
--- `state::loss::lost_indicator` meets its contract: its four cases are the definition's, by the note and by whether a loss is
--- known. Assumes nothing.
-use borrow.Author.Needs.{needs}
+-- `state::loss::lost_indicator` meets its contract: its four cases are the definition's, by whether a record was unrouted and
+-- whether a loss is known. Assumes nothing.
 use borrow.Author.Needs.{needs}
 use borrow.Author.Tests.{eq-eqb, ne-eqb}
 use Rattle.state.proofs.loss.lost_indicator.Statement.{statement}

@@ -10,12 +10,6 @@ shared-slice-read-rest-of c = search needs
 rest-of-requires : tie.Need-rest-of-requires
 rest-of-requires c κs = search needs
 
-shared-slice-read-rest-of-2 : tie.Need-shared-slice-read-rest-of-2
-shared-slice-read-rest-of-2 c = search needs
-
-rest-of-requires-2 : tie.Need-rest-of-requires-2
-rest-of-requires-2 c κs = search needs
-
 shared-slice-read-release-in : tie.Need-shared-slice-read-release-in
 shared-slice-read-release-in c = search needs
 
@@ -34,8 +28,11 @@ shared-slice-read-top-of c = search needs
 top-of-requires : tie.Need-top-of-requires
 top-of-requires c κs = search needs
 
-shared-slice-read-t8 : tie.Need-shared-slice-read-t8
-shared-slice-read-t8 c = search needs
+shared-slice-read-t7 : tie.Need-shared-slice-read-t7
+shared-slice-read-t7 c = search needs
+
+shared-slice-read-t13 : tie.Need-shared-slice-read-t13
+shared-slice-read-t13 c = search needs
 
 shared-slice-read-t15 : tie.Need-shared-slice-read-t15
 shared-slice-read-t15 c = search needs
@@ -45,19 +42,18 @@ shared-slice-read-t17 c = search needs
 
 returns : tie.Need-returns
 returns c =
-    let xs = c .before .before .before .before .before .before .before .before .before .before .before .before .before .before .args .part .now in (
+    let xs = c .before .before .before .before .before .before .before .before .before .before .before .before .before .args .part .now in (
       λ i. record {
-        sequence = getD xs 11 0;
-        opened = c .before .before .before .before .before .before .before .before .before .before .before .rest-of .ensures .0 i;
-        appended = c .before .before .before .before .before .before .before .before .before .rest-of2 .ensures .0 i;
-        high = c .before .before .before .before .before .before .before .release-in .ensures i;
-        low = c .before .before .before .before .before .release-in2 .ensures i;
-        format = c .before .before .before .top-of .ensures i;
-        count = getD xs 16 0;
-        octets = getD xs 17 0;
+        sequence = getD xs 12 0;
+        opened = c .before .before .before .before .before .before .before .before .before .before .rest-of .ensures .0 i;
+        appended = getD xs 14 0;
+        high = c .before .before .before .before .before .before .before .before .release-in .ensures i;
+        low = c .before .before .before .before .before .before .release-in2 .ensures i;
+        format = c .before .before .before .before .top-of .ensures i;
+        count = getD xs 17 0;
+        octets = getD xs 18 0;
       },
-      c .before .before .before .before .before .before .before .before .before .before .before .rest-of .ensures .1,
-      c .before .before .before .before .before .before .before .before .before .rest-of2 .ensures .1,
+      c .before .before .before .before .before .before .before .before .before .before .rest-of .ensures .1,
     )
 
 pub file-in-spec : {M : Type 1} → statement M
@@ -66,15 +62,14 @@ file-in-spec =
     (tie.spec
     shared-slice-read-rest-of
     rest-of-requires
-    shared-slice-read-rest-of-2
-    rest-of-requires-2
     shared-slice-read-release-in
     release-in-requires
     shared-slice-read-release-in-2
     release-in-requires-2
     shared-slice-read-top-of
     top-of-requires
-    shared-slice-read-t8
+    shared-slice-read-t7
+    shared-slice-read-t13
     shared-slice-read-t15
     shared-slice-read-t17
     returns)

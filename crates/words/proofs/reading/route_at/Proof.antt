@@ -27,7 +27,7 @@ route-in-requires : tie.Need-route-in-requires
 route-in-requires c κs = search needs
 
 returns : tie.Need-returns
-returns c = (c .route-in .ensures .0 ∙ part-route _ _ (search needs), c .route-in .ensures .1, c .route-in .ensures .2)
+returns c = (c .route-in .ensures .0 ∙ part-route _ _ (search needs), c .route-in .ensures .1)
 
 pub route-at-spec : {M : Type 1} → statement M
 route-at-spec =

@@ -17,14 +17,11 @@ shared-slice-read-flag-of c = search needs
 flag-of-requires : tie.Need-flag-of-requires
 flag-of-requires c κs = search needs
 
-shared-slice-read-flag-of-2 : tie.Need-shared-slice-read-flag-of-2
-shared-slice-read-flag-of-2 c = search needs
+shared-slice-read-t6 : tie.Need-shared-slice-read-t6
+shared-slice-read-t6 c = search needs
 
-flag-of-requires-2 : tie.Need-flag-of-requires-2
-flag-of-requires-2 c κs = search needs
-
-shared-slice-read-t7 : tie.Need-shared-slice-read-t7
-shared-slice-read-t7 c = search needs
+shared-slice-read-t9 : tie.Need-shared-slice-read-t9
+shared-slice-read-t9 c = search needs
 
 shared-slice-read-t11 : tie.Need-shared-slice-read-t11
 shared-slice-read-t11 c = search needs
@@ -32,17 +29,16 @@ shared-slice-read-t11 c = search needs
 returns : tie.Need-returns
 unfolding routeIn
 returns c =
-    let xs = c .before .before .before .before .before .before .before .before .before .args .part .now in (
+    let xs = c .before .before .before .before .before .before .before .before .args .part .now in (
       λ i. record {
-        settings = c .before .before .before .before .before .before .before .settings-in .ensures i;
+        settings = c .before .before .before .before .before .before .settings-in .ensures i;
         next = getD xs 9 0;
         losses = getD xs 10 0;
-        note = c .before .before .before .before .flag-of .ensures i;
-        «open» = c .before .before .flag-of2 .ensures i;
-        file = c .before .before .before .before .before .before .file-in .ensures .0 i;
+        unrouted = getD xs 11 0;
+        «open» = c .before .before .before .flag-of .ensures i;
+        file = c .before .before .before .before .before .file-in .ensures .0 i;
       },
-      c .before .before .before .before .before .before .file-in .ensures .1,
-      c .before .before .before .before .before .before .file-in .ensures .2,
+      c .before .before .before .before .before .file-in .ensures .1,
     )
 
 pub route-in-spec : {M : Type 1} → statement M
@@ -53,8 +49,7 @@ route-in-spec =
     file-in-requires
     shared-slice-read-flag-of
     flag-of-requires
-    shared-slice-read-flag-of-2
-    flag-of-requires-2
-    shared-slice-read-t7
+    shared-slice-read-t6
+    shared-slice-read-t9
     shared-slice-read-t11
     returns)

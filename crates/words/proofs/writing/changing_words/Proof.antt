@@ -7,9 +7,6 @@ use Rattle.words.proofs.writing.changing_words.Tie as tie
 flagged-requires : tie.Need-flagged-requires
 flagged-requires c κs = search needs
 
-flagged-requires-2 : tie.Need-flagged-requires-2
-flagged-requires-2 c κs = search needs
-
 with-release-requires : tie.Need-with-release-requires
 with-release-requires c κs = search needs
 
@@ -18,13 +15,14 @@ with-release-requires-2 c κs = search needs
 
 returns : tie.Need-returns
 returns c =
-    let r = c .before .before .before .before .before .before .args .r in
+    let r = c .before .before .before .before .before .args .r in
     λ i.
     r .next
     ∷ r .losses
+    ∷ r .unrouted
     ∷ r .file .sequence
-    ∷ c .before .before .before .flagged .ensures i
-    ∷ c .before .before .flagged2 .ensures i
+    ∷ c .before .before .flagged .ensures i
+    ∷ r .file .appended
     ∷ c .before .with-release .ensures i
     ∷ c .with-release2 .ensures i
     ∷ r .file .count
@@ -36,7 +34,6 @@ changing-words-spec =
     tie.close
     (tie.spec
     flagged-requires
-    flagged-requires-2
     with-release-requires
     with-release-requires-2
     returns)

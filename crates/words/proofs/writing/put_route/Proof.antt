@@ -1,4 +1,4 @@
--- `words::writing::put_route` meets its contract: nine words in one copy. Assumes nothing.
+-- `words::writing::put_route` meets its contract: ten words in one copy. Assumes nothing.
 use mathlib.Core.Path.{ap, _∙_}
 use Rattle.octets.specs.Splice.{splice}
 use borrow.Author.Needs.{needs}

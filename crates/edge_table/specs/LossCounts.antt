@@ -1,0 +1,71 @@
+-- The loss counts of document 02, ask 3, by evaluation: their octets, which the manager's definitions and the ledger share, what private
+-- octets of any kind say, and the counts through the events, in which no two are equal, so that two that change places are seen. Losses and
+-- unrouted records before an opening stand in the file; a closing begins again. Assumes nothing.
+use mathlib.Core.Path.{_≡_, refl}
+use mathlib.Core.Bool.{true}
+use mathlib.Core.List.{List, [], _∷_, _++_}
+use Prim.Native.Nat.{ℕ}
+use lib.ListN.{getD, take, drop}
+use Rattle.octets.specs.Splice.{splice}
+use Rattle.calendar.specs.Calendar.{dateFrom, monthDays}
+use Rattle.timestamp.specs.Timestamp.{wordOf}
+use Rattle.timestamp.specs.LocalTime.{timestampOf}
+use Rattle.record.specs.Record.{recordOctets, recordsOctets, highest, lowest}
+use Rattle.cdrfile.specs.File.{fixedOctets, fileOctets}
+use Rattle.counts.specs.Counts.{countOctets, noCounts, countsIn}
+use Rattle.state.specs.Routing.{fits, routeOf}
+use Rattle.state.specs.Bounds.{sameFilter, settingsRight, fileRight, stateRight}
+use Rattle.settings.specs.Settings.{wrongShape, beyondRange, equalFilters, freshOf}
+use Rattle.settings.specs.Settings.{verdict as settingsVerdict}
+use Rattle.filing.specs.Closing.{closedFile}
+use Rattle.events.specs.Events.{openOf, closeOf}
+use Rattle.events.specs.Receive.{receiveOf}
+use Rattle.events.specs.Lent.{openOn, closeOn, receiveOn}
+use Rattle.words.specs.Words.{routeIn, managerIn, wordsOf}
+use Rattle.ledger.specs.Event.{Event, OPEN, CLOSE, RECEIVE}
+use Rattle.ledger.specs.Ledger.{answerOf, entryOf}
+use Rattle.edge_table.specs.Manager.{outputs, filed}
+
+-- 40,000 known losses and 3 unrouted records
+abbrev many : List ℕ
+many = 0x01 ∷ 0x00 ∷ 0x00 ∷ 0x9C ∷ 0x40 ∷ 0x00 ∷ 0x00 ∷ 0x00 ∷ 0x03 ∷ []
+
+abbrev pub Octets : Type 0
+Octets =
+    (countOctets 40000 3 ≡ many)
+    × (countOctets 0 4294967295 ≡ 0x01 ∷ 0x00 ∷ 0x00 ∷ 0x00 ∷ 0x00 ∷ 0xFF ∷ 0xFF ∷ 0xFF ∷ 0xFF ∷ [])
+    × (countsIn many ≡ record { there = true; losses = 40000; unrouted = 3 })
+    -- none counted is not the same as no such extension
+    × (countsIn (countOctets 0 0) ≡ record { there = true; losses = 0; unrouted = 0 })
+    -- no octets, one too few and one too many, another kind
+    × (countsIn [] ≡ noCounts)
+    × (countsIn (take 8 many) ≡ noCounts)
+    × (countsIn (many ++ (0 ∷ [])) ≡ noCounts)
+    × (countsIn (0 ∷ drop 1 many) ≡ noCounts)
+    × (countsIn (2 ∷ drop 1 many) ≡ noCounts)
+
+pub octets : Octets
+unfolding countsIn
+octets = (refl, refl, refl, refl, refl, refl, refl, refl, refl)
+
+-- two unrouted records and three lost ones, of which one of each comes before the opening; closed twice
+abbrev marked : ℕ → Event
+marked mark = RECEIVE 0 (record { mark = mark; release = 4; version = 3; extension = 0; format = 1; ts = 15 }) [] []
+
+abbrev events : List Event
+events = marked 1 ∷ marked 2 ∷ OPEN 0 0 ∷ marked 1 ∷ marked 2 ∷ marked 1 ∷ CLOSE 0 0 4 ∷ OPEN 0 0 ∷ CLOSE 0 0 4 ∷ []
+
+-- the lost indicator and the extension, of the file that the k-th event closes
+abbrev said : List (List ℕ) → ℕ → List ℕ
+said files k = getD (getD files k []) 47 0 ∷ take 11 (drop 50 (getD files k []))
+
+abbrev pub Filed : Type 0
+Filed =
+    (said (outputs 61 events) 6 ≡ 3 ∷ 0 ∷ 9 ∷ countOctets 3 2)
+    × (said (outputs 61 events) 8 ≡ 0 ∷ 0 ∷ 9 ∷ countOctets 0 0)
+    × (said (filed events) 6 ≡ 3 ∷ 0 ∷ 9 ∷ countOctets 3 2)
+    × (said (filed events) 8 ≡ 0 ∷ 0 ∷ 9 ∷ countOctets 0 0)
+
+pub files : Filed
+unfolding wordsOf managerIn routeIn openOn closeOn receiveOn timestampOf wordOf dateFrom monthDays fileOctets fixedOctets recordsOctets recordOctets highest lowest freshOf settingsVerdict wrongShape beyondRange equalFilters settingsRight sameFilter stateRight fileRight fits routeOf openOf closeOf receiveOf closedFile splice answerOf entryOf
+files = (refl, refl, refl, refl)
