@@ -1,6 +1,6 @@
 // The loss counts in a file's private extension (document 02, ask 3): written for a closing, and read out of any private octets.
 ghost use mathlib.Core.Path.{_≡_};
-ghost use Rattle.counts.specs.Counts.{countOctets, countsIn};
+ghost use Rattle.counts.specs.Counts.{countOctets, noCounts, countsIn};
 
 // What private octets say: whether they are such an extension, and if so the known losses of the file's time and the unrouted
 // records. The field `there` tells an extension that counts none from what is no such extension.
@@ -11,24 +11,27 @@ pub struct Counts {
     pub unrouted: u32,
 }
 
+// What is said by octets that are no such extension.
+fn no_counts() -> Counts
+    ensures { λ r. ⌜ r ≡ noCounts ⌝ }
+{
+    Counts {
+        there: false,
+        losses: 0,
+        unrouted: 0,
+    }
+}
+
 // The counts in any private octets, as the reader hands them back.
 pub fn read(private: &[u8]) -> Counts
     ensures { λ r. ⌜ r ≡ countsIn (now (private .entry)) ⌝ }
 {
     if private.len() != 9 {
-        return Counts {
-            there: false,
-            losses: 0,
-            unrouted: 0,
-        };
+        return no_counts();
     }
     let kind = private[0];
     if kind != 1 {
-        return Counts {
-            there: false,
-            losses: 0,
-            unrouted: 0,
-        };
+        return no_counts();
     }
     let losses = octets::num32(private, 1);
     let unrouted = octets::num32(private, 5);

@@ -1,6 +1,6 @@
 // The edge table's rows that are executed: timestamps, lost indicators, loss counts, damaged files, and the table's file, without
-// the loss counts and with them, read, stepped over and written. Each case is a line, and the file `stdout` has what is expected. The starred rows are shown by evaluation in
-// specs/EdgeTable.
+// the loss counts and with them, read, stepped over and written. Each case is a line, and the file `stdout` has what is expected.
+// The starred rows are shown by evaluation in specs/EdgeTable.
 use libc::STDOUT_FILENO;
 ghost use mathlib.Core.Path.{_≡_};
 ghost use Prim.Native.Nat.{_<_};
@@ -180,81 +180,6 @@ fn table_file() -> [u8; 56]
     ]
 }
 
-// And with the loss counts of document 02, ask 3, as the manager closes it.
-fn counted_file() -> [u8; 67]
-    ensures { λ r. ⌜ 67 ≡ length r ⌝ }
-{
-    [
-        0x00,
-        0x00,
-        0x00,
-        0x43,
-        0x00,
-        0x00,
-        0x00,
-        0x3D,
-        0x83,
-        0x83,
-        0x10,
-        0x80,
-        0x08,
-        0x00,
-        0x10,
-        0x80,
-        0x08,
-        0x00,
-        0x00,
-        0x00,
-        0x00,
-        0x01,
-        0x00,
-        0x00,
-        0x00,
-        0x07,
-        0x04,
-        0xFF,
-        0xFF,
-        0xFF,
-        0xFF,
-        0x00,
-        0x00,
-        0x00,
-        0x00,
-        0x00,
-        0x00,
-        0x00,
-        0x00,
-        0x00,
-        0x00,
-        0xFF,
-        0xFF,
-        0xC0,
-        0x00,
-        0x02,
-        0x01,
-        0x00,
-        0x00,
-        0x00,
-        0x00,
-        0x09,
-        0x01,
-        0x00,
-        0x00,
-        0x00,
-        0x00,
-        0x00,
-        0x00,
-        0x00,
-        0x00,
-        0x00,
-        0x02,
-        0x83,
-        0x2F,
-        0xA1,
-        0xB2,
-    ]
-}
-
 // The refusal of a file, beside the one that is expected.
 fn verdict(file: &[u8], expected: u8) {
     let c = reader::read(file);
@@ -325,11 +250,11 @@ fn step(file: &[u8], at: usize) {
     end();
 }
 
-// The file written again to an output of so many octets: the refusal, the octets written or needed, and the output.
-fn written(file: &[u8], output: &mut [u8]) {
+// The file written again, with these private octets, to an output of so many octets: the refusal, the octets written or needed, and
+// the output.
+fn written(file: &[u8], private: &[u8], output: &mut [u8]) {
     let c = reader::read(file);
     let filter = reader::part_of(file, c.filter);
-    let private = reader::part_of(file, c.private);
     let records = reader::part_of(file, c.records);
     let w = writer::write(c.header, filter, private, records, output);
     field(b"written to ", output.len());
@@ -340,25 +265,29 @@ fn written(file: &[u8], output: &mut [u8]) {
 
 fn table_file_cases() {
     let file = table_file();
+    let c = reader::read(&file);
+    let private = reader::part_of(&file, c.private);
     step(&file, 50);
     step(&file, 53);
     step(&file, 56);
     step(&file, 18446744073709551615);
     let mut long = [238u8; 58];
-    written(&file, &mut long);
+    written(&file, private, &mut long);
     let mut short = [238u8; 55];
-    written(&file, &mut short);
+    written(&file, private, &mut short);
 }
 
+// The file with the loss counts of document 02, ask 3, as the manager closes it: written, read, stepped over.
 fn counted_file_cases() {
-    let file = counted_file();
-    let c = reader::read(&file);
-    counts_in(reader::part_of(&file, c.private));
-    step(&file, 61);
-    let mut long = [238u8; 69];
-    written(&file, &mut long);
+    let file = table_file();
+    let none = counts::octets_of(0, 0);
+    let mut counted = [238u8; 67];
+    written(&file, &none, &mut counted);
+    let c = reader::read(&counted);
+    counts_in(reader::part_of(&counted, c.private));
+    step(&counted, 61);
     let mut short = [238u8; 66];
-    written(&file, &mut short);
+    written(&file, &none, &mut short);
 }
 
 fn main() {

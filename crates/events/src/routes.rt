@@ -8,8 +8,8 @@ use record::Release;
 use state::OpenFile;
 use state::Route;
 
-// The route with an empty file, which takes the next sequence number; the number after 4,294,967,295 is 0. Losses and unrouted records stay:
-// they count since the last file closed.
+// The route with an empty file, which takes the next sequence number; the number after 4,294,967,295 is 0. Losses and unrouted
+// records stay: they count since the last file closed.
 pub fn opened_route(r: Route, t: u32) -> Route
     ensures { λ q. ⌜ q ≡ openedRoute r t ⌝ }
 {
