@@ -1,5 +1,6 @@
-//! The days of the months as document 02, ask 2 has them, and files that are right but perhaps for
-//! the day of one timestamp. Neither reader has a part in it.
+//! The days of the months as document 02, ask 2 has them, the dates of a hundred years one after
+//! another, and files that are right but perhaps for the day of one timestamp. Neither reader and
+//! neither calendar has a part in it.
 
 use crate::draft::Draft;
 use crate::fields::{Header, Timestamp};
@@ -26,6 +27,25 @@ pub const PLACES: [Place; 2] = [
         of: |header| &mut header.appended,
     },
 ];
+
+/// Month and day of each day from 1999-12-31 to 2100-01-01, by counting: nothing is worked out.
+pub fn walked() -> Vec<(u32, u32)> {
+    let year = |year: i32| {
+        let last_day = move |month, last| match month {
+            2 if year % 4 != 0 => last - 1,
+            _ => last,
+        };
+        let months = (1..).zip(LAST_DAYS);
+        months
+            .flat_map(move |(month, last)| (1..=last_day(month, last)).map(move |day| (month, day)))
+    };
+    let century = (2000..2100).flat_map(year);
+    [(12, 31)]
+        .into_iter()
+        .chain(century)
+        .chain([(1, 1)])
+        .collect()
+}
 
 /// A draft that is right but perhaps for its day.
 pub struct Dated {
@@ -64,6 +84,18 @@ mod tests {
     fn the_months_lack_six_days() {
         let days = [(2, 30), (2, 31), (4, 31), (6, 31), (9, 31), (11, 31)];
         assert_eq!(missing(), days);
+    }
+
+    #[test]
+    fn the_hundred_years_have_25_leap_days() {
+        let walked = walked();
+        assert_eq!(walked.len(), 1 + 36_525 + 1);
+        let times = |date| walked.iter().filter(|&&one| one == date).count();
+        assert_eq!(
+            [(2, 28), (2, 29), (1, 1), (12, 31)].map(times),
+            [100, 25, 101, 101]
+        );
+        assert_eq!(walked[59..62], [(2, 28), (2, 29), (3, 1)]);
     }
 
     #[test]

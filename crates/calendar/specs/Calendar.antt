@@ -1,7 +1,7 @@
 -- The date of a local day, by walking the lengths of the months: document 01, Timestamps (000, 6.1.1.5, "according to the CGF's local time zone").
 -- Days count from 1999-12-31, which is 0: local time may fall a day before 2000 and a day after 2099.
 -- The standard names no calendar and no range of years. Document 01 has leap years in those divisible by 4, which is the civil calendar from 2000 to 2099.
--- Nothing here speaks of the code's table, so that the table may go without a change of the contract. Assumes nothing.
+-- Nothing here speaks of how the code finds a date: it works it out without a walk (document 02, ask 4). Assumes nothing.
 use mathlib.Core.Bool.{cond}
 use mathlib.Core.List.{List, [], _∷_}
 use Prim.Native.Nat.{ℕ, zero, suc, _+_, _-_, _/_, _%_}

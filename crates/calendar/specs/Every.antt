@@ -1,11 +1,11 @@
--- Tests that are computed once over a whole list, and what each says of every entry: by them a fact about 1,200 entries is one evaluation.
--- They serve the calendar of document 01, Timestamps, and speak of lists of numbers only. Assumes nothing.
-use mathlib.Core.Path.{_≡_, _∙_, ap, sym}
+-- Tests that are computed once over a whole list, or over all numbers below one, and what each says of every entry: by them a fact about each
+-- month of four years is one evaluation. They serve the calendar of document 01, Timestamps, and speak of numbers only. Assumes nothing.
 use mathlib.Core.Bool.{Bool, true, false, _&&_}
 use mathlib.Core.List.{List, [], _∷_}
-use Prim.Native.Nat.{ℕ, zero, suc, _+_, _<_, _≤_, zero-le}
-use native.Mathlib.Nat.{add-zero, add-suc, suc-add, le-of-suc-le-suc, not-suc-le-zero}
-use lib.Dec.{T, eqb, leb, eqb→eq, leb→le}
+use mathlib.Core.Logic.{⊎-elim}
+use Prim.Native.Nat.{ℕ, zero, suc, _<_, _≤_, zero-le}
+use native.Mathlib.Nat.{eq-or-lt-of-le, le-of-suc-le-suc, not-suc-le-zero}
+use lib.Dec.{T, leb, leb→le}
 use lib.ListN.{length, getD}
 
 and-left : (a b : Bool) → T (a && b) → T a
@@ -48,15 +48,12 @@ below-at (x ∷ xs) [] t k = absurd t
 below-at (x ∷ xs) (y ∷ ys) t zero = leb→le x y (and-left (leb x y) (below xs ys) t)
 below-at (x ∷ xs) (y ∷ ys) t (suc k) = below-at xs ys (and-right (leb x y) (below xs ys) t) k
 
--- each entry is the one before it and the step at that one's place, which are counted from i; x stands before the list
-abbrev pub steps : (ℕ → ℕ) → ℕ → ℕ → List ℕ → Bool
-steps f i x [] = true
-steps f i x (y ∷ ys) = eqb y (x + f i) && steps f (suc i) y ys
+-- each number below n passes the test f
+abbrev pub passed : (ℕ → Bool) → ℕ → Bool
+passed f zero = true
+passed f (suc n) = f n && passed f n
 
-pub step-at : (f : ℕ → ℕ) (ys : List ℕ) (i x : ℕ) → T (steps f i x ys) → (k : ℕ) → k < length ys → getD ys k 0 ≡ getD (x ∷ ys) k 0 + f (i + k)
-step-at f [] i x t k h = absurd (not-suc-le-zero h)
-step-at f (y ∷ ys) i x t zero h =
-    eqb→eq y (x + f i) (and-left (eqb y (x + f i)) (steps f (suc i) y ys) t) ∙ ap (λ (m : ℕ). x + f m) (sym (add-zero i))
-step-at f (y ∷ ys) i x t (suc k) h =
-    step-at f ys (suc i) y (and-right (eqb y (x + f i)) (steps f (suc i) y ys) t) k (le-of-suc-le-suc h)
-    ∙ ap (λ (m : ℕ). getD (y ∷ ys) k 0 + f m) (suc-add i k ∙ sym (add-suc i k))
+pub passed-at : (f : ℕ → Bool) (n : ℕ) → T (passed f n) → (k : ℕ) → k < n → T (f k)
+passed-at f zero t k h = absurd (not-suc-le-zero h)
+passed-at f (suc n) t k h =
+    ⊎-elim (λ e. rw e (and-left (f n) (passed f n) t)) (λ l. passed-at f n (and-right (f n) (passed f n) t) k l) (eq-or-lt-of-le (le-of-suc-le-suc h))

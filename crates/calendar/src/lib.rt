@@ -1,12 +1,7 @@
-// The date of a local day from 1999-12-31 to 2100-01-01, found in the table of first days by a binary search; and the most days that a
-// month has.
-mod table;
-
-use table::FIRST_DAYS;
+// The date of a local day from 1999-12-31 to 2100-01-01, worked out; and the most days that a month has.
 ghost use mathlib.Core.Path.{_≡_};
-ghost use Prim.Native.Nat.{suc, _<_};
+ghost use Prim.Native.Nat.{_<_};
 ghost use Rattle.calendar.specs.Calendar.{dateOf, longest};
-ghost use Rattle.calendar.specs.FirstDay.{FirstDays};
 
 // A date without its year: month 1 to 12, day 1 to 31.
 pub struct Date {
@@ -14,40 +9,24 @@ pub struct Date {
     pub day: u32,
 }
 
-// The date of the day number d, which counts from 2000-01-01: the last month of the table t that begins no later holds it.
-fn search(t: &[u32; 1200], d: u32) -> Date
-    requires { ⌜ d < 36525 ⌝ }
-    requires { ⌜ FirstDays (now t) ⌝ }
-    ensures { λ r. ⌜ r ≡ dateOf (suc d) ⌝ }
-{
-    let mut lo: usize = 0;
-    let mut hi: usize = 1200;
-    while 1 < hi - lo {
-        let mid = lo + (hi - lo) / 2;
-        if t[mid] <= d {
-            lo = mid;
-        } else {
-            hi = mid;
-        }
-    }
-    Date {
-        month: (lo % 12) as u32 + 1,
-        day: d - t[lo] + 1,
-    }
-}
-
-// The date n days after 1999-12-31. The table holds neither that day nor 2100-01-01, where local time may fall.
+// The date n days after 1999-12-31. Years and months are counted from March, so that a leap day is the last of its year.
 pub fn local_date(n: u32) -> Date
     requires { ⌜ n < 36527 ⌝ }
     ensures { λ r. ⌜ r ≡ dateOf n ⌝ }
 {
-    if n == 0 {
-        return Date { month: 12, day: 31 };
+    // From 1996-03-01, 1,400 days before, a year has 1,461 quarters of a day. A day lies where its last quarter does, so that every
+    // fourth year has the leap day.
+    let quarters = 4 * (n + 1400) + 3;
+    let year_day = quarters % 1461 / 4;
+    // Five months have 153 days.
+    let from_march = (5 * year_day + 2) / 153;
+    let first = (153 * from_march + 2) / 5;
+    let month = (from_march + 2) % 12 + 1;
+    let day = year_day - first + 1;
+    Date {
+        month: month,
+        day: day,
     }
-    if n == 36526 {
-        return Date { month: 1, day: 1 };
-    }
-    search(&FIRST_DAYS, n - 1)
 }
 
 // The most days that a month has in any year; 0 for a number that is no month.

@@ -45,7 +45,9 @@ fn close_due(words: &mut [u32], t: u32, n: usize, store: &[u8], output: &mut [u8
     while i < n {
         let r = words::route_at(words, i);
         if is_due(t, r) {
-            filing::close_file(node, r, 2, store, from, output, at);
+            // A closing is given a copy, so that a route that is not due is never laid out in memory for one.
+            let closing = r;
+            filing::close_file(node, closing, 2, store, from, output, at);
             let size = closed_size(r);
             let closed = closed_route(r);
             words::put_route(words, i, closed);

@@ -70,6 +70,12 @@ pub record Carried (n : Node) (from : ℕ) (store output : List ℕ) (r : Route)
   pub behind : p .fills ≡ true
       → Closable n (p .holding) (lostOctet (p .holding)) store from output (sizeIf (p .turns) r)
 
+-- what they leave: the record in the store, and in the output the files that close, one behind the other
+abbrev pub CarriedOut : Node → ℕ → List ℕ → List ℕ → Route → Plan → RecordHeader → List ℕ → List ℕ → List ℕ → Type 0
+CarriedOut n from store output r p h body store′ output′ =
+    (store′ ≡ splice store (from + p .used) (recordOctets (record { header = h; body = body })))
+    × (output′ ≡ splice output 0 (closedIf (p .turns) n r (p .reason) store from ++ closedIf (p .fills) n (p .holding) 3 store′ from))
+
 -- only the lengths of store and output matter to a closing, so what is written before it does not
 pub closable-kept : {n : Node} {r : Route} {octet from at : ℕ} {store store′ output output′ : List ℕ} {at′ : ℕ}
     → at′ ≡ at → length store′ ≡ length store → length output′ ≡ length output

@@ -6,14 +6,12 @@ use state::Node;
 use state::Route;
 ghost use mathlib.Core.Path.{_≡_};
 ghost use mathlib.Core.Bool.{true};
-ghost use mathlib.Core.List.{_++_};
-ghost use Prim.Native.Nat.{_+_, _<_};
+ghost use Prim.Native.Nat.{_<_};
 ghost use Rattle.octets.specs.Splice.{splice};
-ghost use Rattle.record.specs.Record.{recordOctets};
 ghost use Rattle.filing.specs.Closing.{lostOctet};
 ghost use Rattle.filing.specs.Needs.{Closable};
 ghost use Rattle.placing.specs.Files.{closedIf, sizeIf};
-ghost use Rattle.placing.specs.Made.{Carried};
+ghost use Rattle.placing.specs.Made.{Carried, CarriedOut};
 
 // The octets of the route's file where it closes, else none.
 pub fn size_if(closes: bool, r: Route) -> usize
@@ -22,46 +20,50 @@ pub fn size_if(closes: bool, r: Route) -> usize
     if closes { events::closed_size(r) } else { 0 }
 }
 
-// Closes the file that the record turns over, where there is one, over the output's start. Its records stand in the store from `base`
-// on. This and `close_filled` are two functions, each called once, so that they are compiled into their caller: a record that closes
-// nothing then does not pay for the copy of its route that a closing is given.
-fn close_turned(
-    turns: bool,
+// Closes the route's file with a reason over the output from `at` on, where it closes. Its records stand in the store from `base` on.
+fn close_if(
+    closes: bool,
     n: Node,
     r: Route,
     reason: u8,
     store: &[u8],
     base: usize,
     output: &mut [u8],
-)
-    requires { ⌜ (turns ≡ true → Closable n r (lostOctet r) (now store) base (now output) 0) ⌝ }
-    ensures { λ _. ⌜ now (output .exit) ≡ splice (now (output .entry)) 0 (closedIf turns n r reason (now (store .entry)) base) ⌝ }
-{
-    if turns {
-        filing::close_file(n, r, reason, store, base, output, 0);
-    }
-}
-
-// Closes the file that the record fills, where it does, over the output from `at` on.
-fn close_filled(
-    fills: bool,
-    n: Node,
-    r: Route,
-    store: &[u8],
-    base: usize,
-    output: &mut [u8],
     at: usize,
 )
-    requires { ⌜ (fills ≡ true → Closable n r (lostOctet r) (now store) base (now output) at) ⌝ }
-    ensures { λ _. ⌜ now (output .exit) ≡ splice (now (output .entry)) at (closedIf fills n r 3 (now (store .entry)) base) ⌝ }
+    requires { ⌜ (closes ≡ true → Closable n r (lostOctet r) (now store) base (now output) at) ⌝ }
+    ensures { λ _. ⌜ now (output .exit) ≡ splice (now (output .entry)) at (closedIf closes n r reason (now (store .entry)) base) ⌝ }
 {
-    if fills {
-        filing::close_file(n, r, 3, store, base, output, at);
+    if closes {
+        filing::close_file(n, r, reason, store, base, output, at);
     }
 }
 
 // Carries out a plan for r, whose region starts at `from`: the file that closes before the record, the record, and the file that it
-// fills, one behind another.
+// fills, each where the plan has it, one behind another.
+fn close_around(
+    n: Node,
+    from: usize,
+    store: &mut [u8],
+    output: &mut [u8],
+    r: Route,
+    p: Plan,
+    h: RecordHeader,
+    body: &[u8],
+)
+    requires { ⌜ Carried n from (now store) (now output) r p h (now body) ⌝ }
+    ensures { λ _. ⌜ CarriedOut n from (now (store .entry)) (now (output .entry)) r p h (now (body .entry)) (now (store .exit)) (now (output .exit)) ⌝ }
+{
+    let at = size_if(p.turns, r);
+    let limit = r.settings.limit as usize;
+    let used = p.used as usize;
+    close_if(p.turns, n, r, p.reason, store, from, output, 0);
+    filing::append(store, from, limit, used, h, body);
+    close_if(p.fills, n, p.holding, 3, store, from, output, at);
+}
+
+// The same. Most records close nothing and are only appended: they do not pay for node and routes laid out in memory, as a closing
+// is given them.
 pub fn carry_out(
     n: Node,
     from: usize,
@@ -73,12 +75,12 @@ pub fn carry_out(
     body: &[u8],
 )
     requires { ⌜ Carried n from (now store) (now output) r p h (now body) ⌝ }
-    ensures { λ _. ⌜ (now (store .exit) ≡ splice (now (store .entry)) (from + p .used) (recordOctets (record { header = h; body = now (body .entry) }))) × (now (output .exit) ≡ splice (now (output .entry)) 0 (closedIf (p .turns) n r (p .reason) (now (store .entry)) from ++ closedIf (p .fills) n (p .holding) 3 (now (store .exit)) from)) ⌝ }
+    ensures { λ _. ⌜ CarriedOut n from (now (store .entry)) (now (output .entry)) r p h (now (body .entry)) (now (store .exit)) (now (output .exit)) ⌝ }
 {
-    let at = size_if(p.turns, r);
-    let limit = r.settings.limit as usize;
-    let used = p.used as usize;
-    close_turned(p.turns, n, r, p.reason, store, from, output);
-    filing::append(store, from, limit, used, h, body);
-    close_filled(p.fills, n, p.holding, store, from, output, at);
+    if p.turns | p.fills {
+        close_around(n, from, store, output, r, p, h, body);
+    } else {
+        let limit = r.settings.limit as usize;
+        filing::append(store, from, limit, p.used as usize, h, body);
+    }
 }

@@ -1,16 +1,18 @@
-//! Times the proved reader and writer beside Rust on the same files in the same run, and prints
-//! their ratios. It asserts nothing.
+//! Times the proved reader, writer and timestamps beside Rust on the same input in the same run,
+//! and prints their ratios. It asserts nothing.
 
 use leveehum::draft::Draft;
 use leveehum::fields::Release;
 use leveehum::proved;
 use leveehum::random::Random;
-use leveehum::second::{self, Contents, LONGEST_FILE};
+use leveehum::second::{self, Contents, LAST_MINUTE, LONGEST_FILE, WIDEST_OFFSET};
 use leveehum::timing::{best_of_both, RUNS};
 use std::hint::black_box;
 
 /// Steps in one run: a single one is too short for the clock.
 const STEPS: usize = 10_000;
+/// Timestamps in one run, each of another minute and offset.
+const STAMPS: usize = 10_000;
 
 fn main() {
     println!("nanoseconds, best of {RUNS} interleaved runs");
@@ -26,6 +28,7 @@ fn main() {
         time_writing(&case, &file, &contents);
         time_steps(&case, &file, body);
     }
+    time_stamps();
 }
 
 /// A file of exactly 1 MiB.
@@ -92,6 +95,30 @@ fn time_steps(case: &str, file: &[u8], body: usize) {
         );
         print_case(&format!("step at the {name}, {case}"), pair, STEPS);
     }
+}
+
+/// Timestamps of random minutes at random offsets; each side is given the offset in its own form.
+fn time_stamps() {
+    let mut random = Random::new(1);
+    let mut time = || {
+        let minutes = random.between(0, LAST_MINUTE as usize) as u32;
+        let bias = random.between(0, 2 * WIDEST_OFFSET as usize) as u32;
+        (minutes, bias, i64::from(bias) - WIDEST_OFFSET)
+    };
+    let times: Vec<(u32, u32, i64)> = (0..STAMPS).map(|_| time()).collect();
+    let pair = best_of_both(
+        || {
+            for &(minutes, bias, _) in &times {
+                black_box(proved::stamp(minutes, bias));
+            }
+        },
+        || {
+            for &(minutes, _, offset) in &times {
+                let _ = black_box(second::timestamp(minutes, offset));
+            }
+        },
+    );
+    print_case("stamp / second, random minutes and offsets", pair, STAMPS);
 }
 
 fn print_case(case: &str, [proved, baseline]: [f64; 2], times: usize) {

@@ -28,6 +28,11 @@ const DATE_ROUNDS: usize = 4;
 const WRITER_ROUNDS: usize = 200;
 const LONG_WRITER_ROUNDS: usize = 20;
 const RANDOM_STAMPS: usize = 1_000_000;
+const DAY: u32 = 1_440;
+/// Days from 2000-01-01 to 2099-12-31.
+const DAYS: usize = 36_525;
+/// The offsets at which both ends of each of those days are compared.
+const DAY_OFFSETS: [i64; 5] = [-WIDEST_OFFSET, -1, 0, 1, WIDEST_OFFSET];
 /// Pairs of random numbers in private octets, beside the chosen ones.
 const RANDOM_COUNTS: usize = 500;
 
@@ -64,6 +69,8 @@ struct Counts {
     /// Private octets, by what they are of `PRIVATE`.
     private: [usize; PRIVATE.len()],
     stamp: Tally,
+    /// Timestamps of a day's first or last minute, by their offset of `DAY_OFFSETS`.
+    day_ends: [usize; DAY_OFFSETS.len()],
     name: Tally,
     name_writer: Tally,
 }
@@ -84,6 +91,7 @@ fn main() -> ExitCode {
         counts.has_parts(),
         counts.has_private(),
         complete("timestamp", &counts.stamp, &[0, 4, 2]),
+        counts.has_day_ends(),
         complete("name reader", &counts.name, &[0, 20]),
         complete("name writer", &counts.name_writer, &[0, 20, 21]),
         counts.dates.iter().all(|tally| came(tally, &[0, 10])),
@@ -91,7 +99,7 @@ fn main() -> ExitCode {
     ];
     println!("{:.1} seconds", start.elapsed().as_secs_f64());
     if complete.contains(&false) {
-        println!("FAILED: an answer never came, or there were too few files");
+        println!("FAILED: an answer never came, or there were too few files or ends of days");
         return ExitCode::FAILURE;
     }
     println!("no difference");
@@ -116,7 +124,8 @@ fn run(counts: &mut Counts) -> Result<(), Difference> {
     compare_dates(&mut random, counts)?;
     compare_writers(&mut random, counts)?;
     compare_counts(&mut random, counts)?;
-    compare_stamps(&mut random, &mut counts.stamp).map_err(|what| Difference {
+    let stamps = compare_day_ends(counts).and_then(|()| compare_stamps(&mut random, counts));
+    stamps.map_err(|what| Difference {
         what,
         octets: Vec::new(),
     })?;
@@ -151,6 +160,16 @@ impl Counts {
             .collect();
         println!("{:27} {}", "private octets", told.join(", "));
         !self.private.contains(&0)
+    }
+
+    /// Prints how many ends of days were compared at each offset; whether both of every day were.
+    fn has_day_ends(&self) -> bool {
+        let offsets = DAY_OFFSETS.iter().zip(self.day_ends);
+        let told: Vec<String> = offsets
+            .map(|(offset, times)| format!("at {offset}: {times}"))
+            .collect();
+        println!("{:27} {}", "ends of days", told.join(", "));
+        self.day_ends == [2 * DAYS; DAY_OFFSETS.len()]
     }
 }
 
@@ -528,18 +547,34 @@ fn compare_private(private: &[u8], counts: &mut Counts) -> Result<(), String> {
     same("loss counts", expected, proved::counts(private))
 }
 
-/// Timestamps: each day's ends, each offset, the ends of both, refused ones, and random ones.
-fn compare_stamps(random: &mut Random, tally: &mut Tally) -> Result<(), String> {
-    const DAY: u32 = 1_440;
-    const LAST_BIAS: u32 = 2 * WIDEST_OFFSET as u32;
+/// Both ends of every day at each of `DAY_OFFSETS`: the date is that of a walk from day to day, too.
+fn compare_day_ends(counts: &mut Counts) -> Result<(), String> {
+    let walked = dates::walked();
     for midnight in (0..=LAST_MINUTE).step_by(DAY as usize) {
         for minutes in [midnight, midnight + DAY - 1] {
-            let bias = random.between(0, LAST_BIAS as usize) as u32;
-            for bias in [bias, 0, LAST_BIAS / 2, LAST_BIAS] {
-                compare_stamp(minutes, bias, tally)?;
+            for (offset, times) in DAY_OFFSETS.iter().zip(&mut counts.day_ends) {
+                let bias = (offset + WIDEST_OFFSET) as u32;
+                let [first, second, ..] = compare_stamp(minutes, bias, &mut counts.stamp)?.octets;
+                let date = (first >> 4, (first & 15) << 1 | second >> 7);
+                // The walk begins a day before the first minute.
+                let local = (i64::from(minutes + DAY) + offset) / i64::from(DAY);
+                let (month, day) = walked[local as usize];
+                let expected = (month as u8, day as u8);
+                if date != expected {
+                    let what = format!("date of minute {minutes}, offset {offset}");
+                    return Err(format!("{what}: walked {expected:?}, proved {date:?}"));
+                }
+                *times += 1;
             }
         }
     }
+    Ok(())
+}
+
+/// Timestamps: every offset at the ends of time, refused ones, and random ones.
+fn compare_stamps(random: &mut Random, counts: &mut Counts) -> Result<(), String> {
+    const LAST_BIAS: u32 = 2 * WIDEST_OFFSET as u32;
+    let tally = &mut counts.stamp;
     let ends = [0, 1, LAST_MINUTE, LAST_MINUTE + 1, 1 << 31, u32::MAX];
     for minutes in ends {
         for bias in (0..=LAST_BIAS + 2).chain([1 << 31, u32::MAX]) {
@@ -557,7 +592,8 @@ fn compare_stamps(random: &mut Random, tally: &mut Tally) -> Result<(), String> 
     Ok(())
 }
 
-fn compare_stamp(minutes: u32, bias: u32, tally: &mut Tally) -> Result<(), String> {
+/// The proved timestamp, which is the second's.
+fn compare_stamp(minutes: u32, bias: u32, tally: &mut Tally) -> Result<Stamped, String> {
     let stamped = proved::stamp(minutes, bias);
     let expected = match second::timestamp(minutes, i64::from(bias) - WIDEST_OFFSET) {
         Ok(octets) => Stamped { refusal: 0, octets },
@@ -568,10 +604,10 @@ fn compare_stamp(minutes: u32, bias: u32, tally: &mut Tally) -> Result<(), Strin
     };
     *tally.entry(expected.refusal).or_default() += 1;
     if expected == stamped {
-        return Ok(());
+        return Ok(stamped);
     }
     let what = format!("timestamp of minute {minutes}, bias {bias}");
-    same(&what, expected, stamped)
+    same(&what, expected, stamped).map(|()| stamped)
 }
 
 /// Both readers and both writers of file names.

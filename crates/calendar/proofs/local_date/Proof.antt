@@ -1,33 +1,58 @@
--- `calendar::local_date` meets its contract: the two days outside the table by evaluation, the others by the search.
--- What the search requires, that the table holds the first days, is one computed test of the whole table. Assumes nothing.
+-- `calendar::local_date` meets its contract: no number is too large or negative, and the date that it works out is the walk's. Assumes nothing.
 use borrow.Author.Needs.{needs}
-use mathlib.Core.Path.{_≡_, refl, sym, ap, _∙_}
-use Prim.Native.Nat.{suc, _-_}
-use native.Mathlib.Omega.{arith}
-use Rattle.calendar.specs.Calendar.{monthDays, dateFrom, dateOf}
-use Rattle.calendar.proofs.Entries.{first-days}
+use Rattle.calendar.proofs.Worked.{worked}
 use Rattle.calendar.proofs.local_date.Statement.{statement}
 use Rattle.calendar.proofs.local_date.Tie as tie
 
+add-quarters : tie.Need-add-quarters
+add-quarters c = search needs
+
+mul-quarters : tie.Need-mul-quarters
+mul-quarters c = search needs
+
+add-quarters-2 : tie.Need-add-quarters-2
+add-quarters-2 c = search needs
+
+mul-from-march : tie.Need-mul-from-march
+mul-from-march c = search needs
+
+add-from-march : tie.Need-add-from-march
+add-from-march c = search needs
+
+mul-first : tie.Need-mul-first
+mul-first c = search needs
+
+add-first : tie.Need-add-first
+add-first c = search needs
+
+add-month : tie.Need-add-month
+add-month c = search needs
+
+add-month-2 : tie.Need-add-month-2
+add-month-2 c = search needs
+
+sub-day : tie.Need-sub-day
+sub-day c = search needs
+
+add-day : tie.Need-add-day
+add-day c = search needs
+
 returns : tie.Need-returns
-returns c = sym (ap dateOf (c .if1 .taken))
-
-returns-2 : tie.Need-returns-2
-unfolding dateFrom monthDays
-returns-2 c = sym (ap dateOf (c .if2 .taken))
-
-sub-search : tie.Need-sub-search
-sub-search c = search needs
-
-search-requires : tie.Need-search-requires
-unfolding monthDays
-search-requires c κs = (search needs, first-days _ tt refl)
-
-returns-3 : tie.Need-returns-3
-returns-3 c =
-    let n = c .before .before .before .before .args .n in
-    let e : suc (n - 1) ≡ n = omega arith in
-    c .search .ensures ∙ ap dateOf e
+returns c = worked (c .args .n) (search needs)
 
 pub local-date-spec : {M : Type 1} → statement M
-local-date-spec = tie.close (tie.spec returns returns-2 sub-search search-requires returns-3)
+local-date-spec =
+    tie.close
+    (tie.spec
+    add-quarters
+    mul-quarters
+    add-quarters-2
+    mul-from-march
+    add-from-march
+    mul-first
+    add-first
+    add-month
+    add-month-2
+    sub-day
+    add-day
+    returns)

@@ -1,33 +1,22 @@
--- `placing::carrying::carry_out` meets its contract: what is written before a closing leaves the lengths as they were, and the
--- second file stands behind the first. Assumes nothing.
-use mathlib.Core.Path.{_≡_, sym, _∙_}
-use lib.ListN.{length, length-map}
-use Rattle.placing.specs.Made.{closable-kept, carried-made}
+-- `placing::carrying::carry_out` meets its contract: where nothing closes, nothing is written over the output. Assumes nothing.
+use mathlib.Core.Path.{sym}
+use Rattle.refusals.specs.Refusal.{or-false}
+use Rattle.octets.specs.Splice.{splice-nil}
 use borrow.Author.Needs.{needs}
 use Rattle.placing.proofs.carrying.carry_out.Statement.{statement}
 use Rattle.placing.proofs.carrying.carry_out.Tie as tie
 
-size-if-requires : tie.Need-size-if-requires
-size-if-requires c κs = search needs
+close-around-requires : tie.Need-close-around-requires
+close-around-requires c κs = search needs
 
 cast-limit : tie.Need-cast-limit
 cast-limit c = search needs
 
-cast-used : tie.Need-cast-used
-cast-used c = search needs
-
-close-turned-requires : tie.Need-close-turned-requires
-close-turned-requires c κs = search needs
+cast-append : tie.Need-cast-append
+cast-append c = search needs
 
 append-requires : tie.Need-append-requires
 append-requires c κs = search needs
-
-close-filled-requires : tie.Need-close-filled-requires
-close-filled-requires c κs = λ e.
-    let a = c .before .before .before .before in
-    let o = a .before .before .before .before in
-    let n = o .before .before .before .before .before in
-    closable-kept (n .size-if .ensures .0) (a .append .kept .0) (o .close-turned .kept .1 .1 .1 .1 .1 .1 .0) (n .before .before .before .before .pre .behind e)
 
 same-length : tie.Need-same-length
 same-length c = search needs
@@ -36,28 +25,29 @@ same-length-2 : tie.Need-same-length-2
 same-length-2 c = search needs
 
 returns : tie.Need-returns
-returns c =
-    let a = c .before .before .before .before .before .before .before in
-    let o = a .before .before .before .before in
-    let n = o .before .before .before .before .before in
-    let s = n .before .before .before .before in
-    let x = s .args in
-    let twenty : length (x .r .settings .filter) ≡ 20 = sym (length-map (x .r .settings .filter) _) ∙ s .good .1 .1 .1 .1 .0 .1 .1 .0 .1 .1 .0 .1 .0 .1 in (
-      a .append .ensures,
-      carried-made (x .n) (x .from) (x .store .now) (x .output .now) (x .r) (x .p) (x .h) (x .body .now) (s .pre) twenty _ (n .size-if .ensures .0)
-          (o .close-turned .ensures) (c .before .before .close-filled .ensures),
-    )
+returns c = search needs
+
+same-length-3 : tie.Need-same-length-3
+same-length-3 c = search needs
+
+returns-2 : tie.Need-returns-2
+returns-2 c =
+    let a = c .before .before in
+    let b = a .before .before .before .before in
+    let p = b .before .before .before .before .before .args .p in
+    let none = or-false (p .turns) (p .fills) (b .if1 .left) in
+    (a .append .ensures, rw (none .0, none .1) (sym (splice-nil _ _)))
 
 pub carry-out-spec : {M : Type 1} → statement M
 carry-out-spec =
     tie.close
     (tie.spec
-    size-if-requires
+    close-around-requires
     cast-limit
-    cast-used
-    close-turned-requires
+    cast-append
     append-requires
-    close-filled-requires
     same-length
     same-length-2
-    returns)
+    returns
+    same-length-3
+    returns-2)
