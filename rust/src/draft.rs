@@ -2,7 +2,7 @@
 
 use crate::counts::LossCounts;
 use crate::dates::LAST_DAYS;
-use crate::fields::{Header, RecordHeader, Release, Timestamp};
+use crate::fields::{Header, RecordHeader, Release, Timestamp, EMPTY, NONE, OCTETS};
 use crate::random::Random;
 use crate::second::{EXTENDED, FIXED};
 
@@ -11,6 +11,8 @@ use crate::second::{EXTENDED, FIXED};
 pub struct Draft {
     pub header: Header,
     pub filter: Vec<u8>,
+    /// The octets of the private extension, which the header's statement tells to be none, empty or
+    /// with octets.
     pub private: Vec<u8>,
     /// The records, one behind another.
     pub records: Vec<u8>,
@@ -51,14 +53,16 @@ impl Draft {
             filter: some_octets(random, 20),
             ..Self::default()
         };
-        draft.private = match random.below(6) {
-            0..=2 => Vec::new(),
-            3 => loss_counts(random),
+        match random.below(7) {
+            0..=2 => draft.extend(None),
+            3 => draft.extend(Some(Vec::new())),
+            4 => draft.extend(Some(loss_counts(random))),
             _ => {
                 let length = random.pick(&[1, 2, 40]);
-                some_octets(random, length)
+                let private = some_octets(random, length);
+                draft.extend(Some(private));
             }
-        };
+        }
         for _ in 0..count {
             // Now and then the release stays, so that files of one release come too.
             let release = if mix == 3 {
@@ -91,6 +95,16 @@ impl Draft {
         draft
     }
 
+    /// Gives the header a private extension of these octets, or none.
+    pub fn extend(&mut self, private: Option<Vec<u8>>) {
+        self.header.statement = match &private {
+            None => NONE,
+            Some(octets) if octets.is_empty() => EMPTY,
+            Some(_) => OCTETS,
+        };
+        self.private = private.unwrap_or_default();
+    }
+
     /// Adds a record.
     pub fn add(&mut self, random: &mut Random, release: Release, body: &[u8]) {
         let fields = RecordHeader {
@@ -118,9 +132,9 @@ impl Draft {
 
     /// The octets of the file and its header.
     pub fn lengths(&self) -> (usize, usize) {
-        let private = match self.private.len() {
-            0 => 0,
-            octets => octets + 2,
+        let private = match self.header.statement {
+            NONE => 0,
+            _ => self.private.len() + 2,
         };
         let extensions = extension(self.header.high).count() + extension(self.header.low).count();
         let header = FIXED + self.filter.len() + private + extensions;
@@ -144,7 +158,7 @@ impl Draft {
         octets.push(of.lost);
         octets.extend_from_slice(&(self.filter.len() as u16).to_be_bytes());
         octets.extend_from_slice(&self.filter);
-        if !self.private.is_empty() {
+        if of.statement != NONE {
             octets.extend_from_slice(&(self.private.len() as u16).to_be_bytes());
             octets.extend_from_slice(&self.private);
         }
@@ -173,6 +187,7 @@ fn header(random: &mut Random, high: Release, low: Release) -> Header {
         reason: random.octet(),
         address,
         lost: random.octet(),
+        statement: NONE,
     }
 }
 

@@ -42,7 +42,16 @@ pub struct Header {
     pub address: [u8; 20],
     /// The lost indicator.
     pub lost: u8,
+    /// What it states of its private extension: `NONE`, `EMPTY` or `OCTETS`.
+    pub statement: u8,
 }
+
+/// There is no private extension.
+pub const NONE: u8 = 0;
+/// There is one of length 0.
+pub const EMPTY: u8 = 1;
+/// There is one with octets.
+pub const OCTETS: u8 = 2;
 
 /// The fields of a record header but for the body length.
 #[repr(C)]

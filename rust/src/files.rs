@@ -26,7 +26,7 @@ const fn family(
     }
 }
 
-pub const FAMILIES: [Family; 18] = [
+pub const FAMILIES: [Family; 19] = [
     family("document 01's file", 1, file_case),
     family("right", 20_000, right),
     family("header field damaged", 90, header_fields),
@@ -37,6 +37,7 @@ pub const FAMILIES: [Family; 18] = [
     family("header length off by 1, 2", 250, header_lengths),
     family("f and p near 65,535", 8, reserved_lengths),
     family("p of 0", 200, no_private_octets),
+    family("extensions of three kinds", 40, extensions),
     family("lengths at the limits", 6, limits),
     family("short", 6, short),
     family("low above high", 300, low_above_high),
@@ -283,7 +284,7 @@ fn reserved_lengths(random: &mut Random) -> Vec<Vec<u8>> {
     for f in [0, 3, 65_534, 65_535] {
         for p in [0, 1, 65_534, 65_535] {
             draft.filter = random.octets(f);
-            draft.private = random.octets(p);
+            draft.extend((p > 0).then(|| random.octets(p)));
             let laid = draft.lay();
             for said in [65_534, 65_535] {
                 let said = u16::to_be_bytes(said);
@@ -303,7 +304,7 @@ fn reserved_lengths(random: &mut Random) -> Vec<Vec<u8>> {
 /// A private extension of no octets, alone and with octets behind its length.
 fn no_private_octets(random: &mut Random) -> Vec<Vec<u8>> {
     let mut draft = Draft::right(random);
-    draft.private.clear();
+    draft.extend(None);
     let laid = draft.lay();
     let mut files = Vec::new();
     for more in [2, 3, 4] {
@@ -312,12 +313,31 @@ fn no_private_octets(random: &mut Random) -> Vec<Vec<u8>> {
             add(&mut file[4..8], more);
         })));
     }
-    draft.private = random.octets(1);
+    draft.extend(Some(random.octets(1)));
     let one = draft.lay();
     files.push(changed(&one.octets, |file| {
         set(file, one.filter_end, [0, 0])
     }));
     files.push(one.octets);
+    files
+}
+
+/// No private extension, an empty one, and ones of 1 and 65,534 octets; about each the header length
+/// off by one and two, in its field alone and with as many octets more or less.
+fn extensions(random: &mut Random) -> Vec<Vec<u8>> {
+    let mut draft = Draft::right(random);
+    let mut files = Vec::new();
+    for octets in [None, Some(0), Some(1), Some(65_534)] {
+        draft.extend(octets.map(|octets| random.octets(octets)));
+        let laid = draft.lay();
+        for number in [-2, -1, 1, 2] {
+            let said = |file: &mut Vec<u8>| add(&mut file[4..8], number);
+            files.push(changed(&laid.octets, said));
+            let resized = changed(&laid.octets, |file| resize(file, laid.header, number));
+            files.push(mend(changed(&resized, said)));
+        }
+        files.push(laid.octets);
+    }
     files
 }
 
@@ -540,11 +560,11 @@ mod tests {
         assert_eq!(answers(longest_records, 10), [0, 11]);
         assert_eq!(answers(cuts, 20), [8, 9, 11, 12]);
         assert_eq!(answers(grown, 40), [8, 11, 12]);
-        // 8 for the least file less an octet; and a file of no filter may lose the octets of f, and
-        // those of p take their place.
-        assert_eq!(answers(header_lengths, 40), [0, 8, 9, 11]);
+        // Two octets more may be an empty extension, and the octets of a release 7 then others.
+        assert_eq!(answers(header_lengths, 400), [0, 9, 11, 13]);
         assert_eq!(answers(reserved_lengths, 1), [0, 9, 10, 11]);
         assert_eq!(answers(no_private_octets, 20), [0, 9]);
+        assert_eq!(answers(extensions, 20), [0, 9, 11, 13]);
         assert_eq!(answers(low_above_high, 40), [0, 13]);
         assert_eq!(answers(counts, 20), [12]);
         assert_eq!(answers(wrong_spans, 40), [9, 13]);

@@ -3,7 +3,7 @@
 
 use crate::dates;
 use crate::draft::Draft;
-use crate::fields::{Header, Release, Timestamp};
+use crate::fields::{Header, Release, Timestamp, EMPTY, NONE, OCTETS};
 use crate::random::Random;
 use crate::second::{EXTENDED, LONGEST_FILE};
 
@@ -47,7 +47,10 @@ pub fn input(random: &mut Random, combination: usize) -> Input {
         put_wrong_value(random, &mut draft);
     }
     if has(combination, 2) {
-        widen_field(random, &mut draft.header);
+        match random.below(3) {
+            0 => contradict(random, &mut draft),
+            _ => widen_field(random, &mut draft.header),
+        }
     }
     let needed = draft.lengths().0;
     let room = if has(combination, 17) {
@@ -161,7 +164,7 @@ fn put_wrong_value(random: &mut Random, draft: &mut Draft) {
     let many = random.pick(&[65_535, 65_536, 70_000, 131_072]);
     match random.below(7) {
         0 => draft.filter = random.octets(many),
-        1 => draft.private = random.octets(many),
+        1 => draft.extend(Some(random.octets(many))),
         2 => {
             let time = either_time(random, &mut draft.header);
             (time.month, time.day) = random.pick(&dates::missing());
@@ -176,6 +179,15 @@ fn put_wrong_value(random: &mut Random, draft: &mut Draft) {
             }
         }
     }
+}
+
+/// Makes the header state what its private octets contradict, or nothing.
+fn contradict(random: &mut Random, draft: &mut Draft) {
+    let wrong: &[u8] = match draft.private.is_empty() {
+        true => &[OCTETS, 3, 255],
+        false => &[NONE, EMPTY, 3, 255],
+    };
+    draft.header.statement = random.pick(wrong);
 }
 
 /// Puts a value beyond its width in a field, or an extension below release 7.

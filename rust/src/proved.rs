@@ -31,7 +31,7 @@ pub struct Read {
     pub refusal: u8,
     pub header: Header,
     pub filter: Part,
-    /// No octets when there is no private extension.
+    /// No octets when there is no private extension, and when that is empty.
     pub private: Part,
     /// Starts at the header length and ends at the file length.
     pub records: Part,

@@ -4,7 +4,7 @@
 
 #![forbid(unsafe_code)]
 
-use crate::fields::{Header, RecordHeader, Release, Timestamp};
+use crate::fields::{Header, RecordHeader, Release, Timestamp, EMPTY, NONE, OCTETS};
 use std::ops::Range;
 
 /// The most octets that a file may have.
@@ -25,7 +25,7 @@ pub const WIDEST_OFFSET: i64 = 1_439;
 pub struct Contents {
     pub header: Header,
     pub filter: Range<usize>,
-    /// Empty when there is no private extension.
+    /// Empty when there is no private extension, and when that is.
     pub private: Range<usize>,
     pub records: Range<usize>,
     pub count: usize,
@@ -75,6 +75,7 @@ pub fn read(file: &[u8]) -> Result<Contents, u8> {
             reason: fixed[26],
             address,
             lost: fixed[47],
+            statement: places.statement,
         },
         filter: places.filter,
         private: places.private,
@@ -97,7 +98,7 @@ pub fn write(
     records: &[u8],
     output: &mut [u8],
 ) -> Result<usize, (u8, usize)> {
-    if !fits_widths(header) {
+    if !fits_widths(header) || !bears_out(private, header.statement) {
         return Err((2, 0));
     }
     let times_right = is_right(&header.opened) && is_right(&header.appended);
@@ -117,7 +118,7 @@ pub fn write(
     let fixed = lay_fixed(header, filter, [octets, header_octets, walked.count]);
     let rest = put(file, &fixed);
     let rest = put(rest, filter);
-    let rest = put_private(rest, private);
+    let rest = put_private(rest, header.statement, private);
     let rest = put_extension(rest, header.high);
     let rest = put_extension(rest, header.low);
     put(rest, records);
@@ -158,13 +159,15 @@ fn whole(file: &[u8]) -> Option<&[u8; FIXED]> {
 /// Where a header's parts stand, and the releases that take octets behind them.
 struct Places {
     filter: Range<usize>,
+    /// What the lengths say of a private extension.
+    statement: u8,
     private: Range<usize>,
     records: Range<usize>,
     high: Release,
     low: Release,
 }
 
-/// The header's parts if they add up to the header length, private octets being none or some.
+/// The header's parts if they add up to the header length, with a private extension or without.
 fn places(file: &[u8], fixed: &[u8; FIXED]) -> Option<Places> {
     let length = word(fixed, 4) as usize;
     if !(FIXED..=file.len()).contains(&length) {
@@ -173,11 +176,14 @@ fn places(file: &[u8], fixed: &[u8; FIXED]) -> Option<Places> {
     let extensions = extension_octets(fixed[8] >> 5) + extension_octets(fixed[9] >> 5);
     let private_end = length.checked_sub(extensions)?;
     let filter = FIXED..FIXED + half_word(&fixed[48..])?;
-    let private_start = match private_end.checked_sub(filter.end)? {
-        0 => filter.end,
-        // The two octets of a length need at least one more behind them.
-        1 | 2 => return None,
-        octets if half_word(&file[filter.end..])? + 2 == octets => filter.end + 2,
+    let (statement, private_start) = match private_end.checked_sub(filter.end)? {
+        0 => (NONE, filter.end),
+        // A length has two octets.
+        1 => return None,
+        octets if half_word(&file[filter.end..])? + 2 == octets => {
+            let statement = if octets == 2 { EMPTY } else { OCTETS };
+            (statement, filter.end + 2)
+        }
         _ => return None,
     };
     // None, one or two octets: the high extension is the first of them, the low one the last.
@@ -186,6 +192,7 @@ fn places(file: &[u8], fixed: &[u8; FIXED]) -> Option<Places> {
         high: release(fixed[8], tail.first()),
         low: release(fixed[9], tail.last()),
         filter,
+        statement,
         private: private_start..private_end,
         records: length..file.len(),
     })
@@ -300,6 +307,15 @@ fn last_day(month: u32) -> u32 {
     }
 }
 
+/// Whether private octets are as they are stated to be.
+fn bears_out(private: &[u8], statement: u8) -> bool {
+    match statement {
+        NONE | EMPTY => private.is_empty(),
+        OCTETS => !private.is_empty(),
+        _ => false,
+    }
+}
+
 /// Whether a timestamp is right: a day that its month can have, either sign.
 fn is_right(time: &Timestamp) -> bool {
     (1..=12).contains(&time.month)
@@ -334,9 +350,9 @@ fn pack(time: &Timestamp) -> u32 {
 
 /// The file header's octets for these parts: it has no one length.
 fn header_length(header: &Header, filter: &[u8], private: &[u8]) -> usize {
-    let private_octets = match private.len() {
-        0 => 0,
-        octets => 2 + octets,
+    let private_octets = match header.statement {
+        NONE => 0,
+        _ => 2 + private.len(),
     };
     let extensions = extension_octets(header.high.release) + extension_octets(header.low.release);
     FIXED + filter.len() + private_octets + extensions
@@ -373,8 +389,8 @@ fn put<'a>(output: &'a mut [u8], octets: &[u8]) -> &'a mut [u8] {
     behind
 }
 
-fn put_private<'a>(output: &'a mut [u8], private: &[u8]) -> &'a mut [u8] {
-    if private.is_empty() {
+fn put_private<'a>(output: &'a mut [u8], statement: u8, private: &[u8]) -> &'a mut [u8] {
+    if statement == NONE {
         return output;
     }
     let rest = put(output, &(private.len() as u16).to_be_bytes());
@@ -521,7 +537,9 @@ mod tests {
     fn the_managers_file_is_read_and_written() {
         let file = octets(CLOSED);
         let contents = read(&file).unwrap();
-        assert_eq!(contents.header, example_header());
+        let mut expected = example_header();
+        expected.statement = OCTETS;
+        assert_eq!(contents.header, expected);
         assert_eq!((contents.filter, contents.private), (50..50, 52..61));
         assert_eq!((contents.records, contents.count), (61..67, 1));
         let header = contents.header;
@@ -601,7 +619,7 @@ mod tests {
         let empty = |f, behind: &[u8]| refusal(&file([0x83, 0x83], f, behind, &[], 0));
         assert_eq!(empty(0, &[]), 0);
         assert_eq!(empty(0, &[0]), 9, "one octet too many");
-        assert_eq!(empty(0, &[0, 0]), 9, "p is 0");
+        assert_eq!(empty(0, &[0, 0]), 0, "p may be 0");
         assert_eq!(empty(0, &[0, 1]), 9, "no octet of a private extension");
         assert_eq!(empty(0, &[0, 1, 5]), 0);
         assert_eq!(empty(0, &[0, 2, 5]), 9);
@@ -701,16 +719,51 @@ mod tests {
         assert_eq!(written(&header, &long, &[], &cut), (2, 0));
         header.opened.month = 13;
         assert_eq!(written(&header, &[], &[], &cut), (10, 0));
+        assert_eq!(written(&header, &[], &[1], &cut), (2, 0));
         header.opened.month = 1;
         assert_eq!(written(&header, &long, &[], &cut), (10, 0));
+        header.statement = OCTETS;
         assert_eq!(written(&header, &[], &long, &cut), (10, 0));
+        header.statement = NONE;
         assert_eq!(written(&header, &[], &[], &cut), (11, 0));
         assert_eq!(written(&header, &[], &[], &[]), (13, 0));
         header.low.version = 3;
         assert_eq!(written(&header, &long[1..], &[], &[]), (17, 65_584));
+        header.statement = OCTETS;
         assert_eq!(written(&header, &[1], &[2, 3], &[]), (0, 55));
+        header.statement = NONE;
         header.low.extension = 1;
         assert_eq!(written(&header, &[], &[], &[]), (2, 0));
+    }
+
+    #[test]
+    fn extensions_of_three_kinds_are_told_apart() {
+        let records = &octets(EXAMPLE)[50..];
+        let mut header = example_header();
+        for (statement, private, behind) in [
+            (NONE, &[][..], &[][..]),
+            (EMPTY, &[], &[0, 0]),
+            (OCTETS, &[0xAA], &[0, 1, 0xAA]),
+        ] {
+            let expected = file([0x83, 0x83], 0, behind, records, 1);
+            let contents = read(&expected).unwrap();
+            assert_eq!(contents.header.statement, statement);
+            assert_eq!(&expected[contents.private], private);
+            header.statement = statement;
+            let mut output = vec![0; expected.len()];
+            let length = write(&header, &[], private, records, &mut output);
+            assert_eq!((length, output), (Ok(expected.len()), expected));
+        }
+        for (statement, private) in [
+            (NONE, &[1][..]),
+            (EMPTY, &[1]),
+            (OCTETS, &[]),
+            (3, &[]),
+            (255, &[1]),
+        ] {
+            header.statement = statement;
+            assert_eq!(written(&header, &[], private, records), (2, 0));
+        }
     }
 
     #[test]

@@ -14,7 +14,7 @@ use Rattle.cdrfile.specs.declared.Header.{Header}
 use Rattle.cdrfile.specs.Order.{wrongOrder}
 use Rattle.reader.specs.declared.Contents.{Contents}
 use Rattle.reader.specs.Reader.{readOf, partOf}
-use Rattle.writer.specs.Writer.{After, after, beyondWidth, wrongValue, neededOctets, verdict, written, settled, writeOf}
+use Rattle.writer.specs.Writer.{After, after, wrongFields, wrongValue, neededOctets, verdict, written, settled, writeOf}
 
 -- the writer, over what the reader hands back of a file
 abbrev pub handedOn : Contents → List ℕ → List ℕ → After
@@ -38,7 +38,7 @@ module _ (h : Header) (filter private records output : List ℕ) where
       let r13 : List Rule = (13 when wrongOrder (h .high) (h .low) (tallyOf records)) ∷ r8 in
       let r11 : List Rule = (11 when not (eqb (tallyOf records .refusal) 0)) ∷ r13 in
       let r10 : List Rule = (10 when wrongValue h filter private) ∷ r11 in
-      let p2 = passed 1 (beyondWidth h) r10 e in
+      let p2 = passed 1 (wrongFields h private) r10 e in
       let p10 = passed 9 (wrongValue h filter private) r11 (p2 .1) in
       let p11 = passed 10 (not (eqb (tallyOf records .refusal) 0)) r13 (p10 .1) in
       let p13 = passed 12 (wrongOrder (h .high) (h .low) (tallyOf records)) r8 (p11 .1) in

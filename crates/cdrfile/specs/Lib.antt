@@ -1,3 +1,4 @@
+pub mod Statement
 pub mod File
 pub mod Order
 pub mod Laws

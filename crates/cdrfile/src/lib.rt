@@ -13,7 +13,8 @@ ghost use Rattle.cdrfile.specs.Laws.{fixedFrom};
 ghost use Rattle.cdrfile.specs.Needs.{Writable, Layable};
 
 // The header's fields that are not worked out from the rest: high and low release, the times of opening and of the last
-// append, the file sequence number, the closure reason, the node's 20 address octets and the lost indicator.
+// append, the file sequence number, the closure reason, the node's 20 address octets and the lost indicator; and what it states
+// of its private extension: 0 there is none, 1 an empty one, 2 one with octets.
 #[repr(C)]
 pub struct Header {
     pub high: Release,
@@ -24,6 +25,7 @@ pub struct Header {
     pub reason: u8,
     pub address: [u8; 20],
     pub lost: u8,
+    pub statement: u8,
 }
 
 // Whether high or low is wrong for the records that a walk found.
@@ -47,15 +49,11 @@ fn extension_length(r: Release) -> usize
 }
 
 // How many octets the private extension takes in a header.
-fn private_length(private: &[u8]) -> usize
+fn private_length(statement: u8, private: &[u8]) -> usize
     requires { ⌜ length (now private) ≤ 1048576 ⌝ }
-    ensures { λ n. ⌜ (n ≡ length (privateOctets (now (private .entry)))) × (n ≤ 2 + length (now (private .entry))) ⌝ }
+    ensures { λ n. ⌜ (n ≡ length (privateOctets statement (now (private .entry)))) × (n ≤ 2 + length (now (private .entry))) ⌝ }
 {
-    if private.len() == 0 {
-        0
-    } else {
-        2 + private.len()
-    }
+    if statement == 0 { 0 } else { 2 + private.len() }
 }
 
 // How many octets a file's header has.
@@ -63,7 +61,7 @@ pub fn header_length(h: Header, filter: &[u8], private: &[u8]) -> usize
     requires { ⌜ (length (now filter) ≤ 1048576) × (length (now private) ≤ 1048576) ⌝ }
     ensures { λ n. ⌜ n ≡ headerLength h (now (filter .entry)) (now (private .entry)) ⌝ }
 {
-    let p = private_length(private);
+    let p = private_length(h.statement, private);
     let high = extension_length(h.high);
     let low = extension_length(h.low);
     50 + filter.len() + p + high + low
@@ -173,11 +171,11 @@ fn fixed_octets(h: Header, length: u32, header: u32, count: u32, filter: usize) 
 }
 
 // Writes the private extension, if any, over the output from `at` on.
-fn put_private(output: &mut [u8], at: usize, private: &[u8])
-    requires { ⌜ at + length (privateOctets (now private)) ≤ length (now output) ⌝ }
-    ensures { λ _. ⌜ now (output .exit) ≡ splice (now (output .entry)) at (privateOctets (now (private .entry))) ⌝ }
+fn put_private(output: &mut [u8], at: usize, statement: u8, private: &[u8])
+    requires { ⌜ at + length (privateOctets statement (now private)) ≤ length (now output) ⌝ }
+    ensures { λ _. ⌜ now (output .exit) ≡ splice (now (output .entry)) at (privateOctets statement (now (private .entry))) ⌝ }
 {
-    if private.len() == 0 {
+    if statement == 0 {
         return;
     }
     octets::copy(output, at, &octets::be16(private.len()));
@@ -212,8 +210,8 @@ pub fn lay_out(
     octets::copy(output, 0, &fixed);
     octets::copy(output, 50, filter);
     let behind = 50 + filter.len();
-    put_private(output, behind, private);
-    let high = behind + private_length(private);
+    put_private(output, behind, h.statement, private);
+    let high = behind + private_length(h.statement, private);
     put_extension(output, high, h.high);
     let low = high + extension_length(h.high);
     put_extension(output, low, h.low);

@@ -61,9 +61,9 @@ address =
     0xFF ∷ 0xFF ∷ 0xFF ∷ 0xFF
     ∷ 0 ∷ 0 ∷ 0 ∷ 0 ∷ 0 ∷ 0 ∷ 0 ∷ 0 ∷ 0 ∷ 0 ∷ 0xFF ∷ 0xFF ∷ 192 ∷ 0 ∷ 2 ∷ 1 ∷ []
 
--- its header, with this opening and this last append
-abbrev timed : Timestamp → Timestamp → Header
-timed opened appended =
+-- its header, with this opening, this last append, and this statement of a private extension
+abbrev pub timedStating : ℕ → Timestamp → Timestamp → Header
+timedStating statement opened appended =
     record {
       high = release43;
       low = release43;
@@ -73,10 +73,18 @@ timed opened appended =
       reason = 4;
       address = address;
       lost = 0;
+      statement = statement;
     }
 
+-- document 01's states none
+abbrev timed : Timestamp → Timestamp → Header
+timed opened appended = timedStating 0 opened appended
+
+abbrev pub stating : ℕ → Header
+stating statement = timedStating statement (timestampOf 0 (ahead 0)) (timestampOf 0 (ahead 0))
+
 abbrev header : Header
-header = timed (timestampOf 0 (ahead 0)) (timestampOf 0 (ahead 0))
+header = stating 0
 
 -- release 4, version 3, format 1, TS 15, body A1 B2
 abbrev onlyRecord : Record
@@ -87,13 +95,13 @@ file = record { header = header; filter = []; private = []; records = onlyRecord
 
 -- with the loss counts of a time without losses, as the manager closes it
 abbrev countedFile : File
-countedFile = record { header = header; filter = []; private = countOctets 0 0; records = onlyRecord ∷ [] }
+countedFile = record { header = stating 2; filter = []; private = countOctets 0 0; records = onlyRecord ∷ [] }
 
-abbrev recordPart : List ℕ
+abbrev pub recordPart : List ℕ
 recordPart = 0x00 ∷ 0x02 ∷ 0x83 ∷ 0x2F ∷ 0xA1 ∷ 0xB2 ∷ []
 
 -- its octets, as document 01 has them
-abbrev octets : List ℕ
+abbrev pub octets : List ℕ
 octets =
     0x00 ∷ 0x00 ∷ 0x00 ∷ 0x38
     ∷ 0x00 ∷ 0x00 ∷ 0x00 ∷ 0x32
@@ -290,7 +298,7 @@ damaged = (refl, refl, refl, refl, refl, refl)
 
 -- Days at the ends of months (document 02, ask 2), in either timestamp of the table's file: what the reader makes of the file,
 -- and the writer of the fields. No year is written, so 29 February always exists.
-abbrev midnight : ℕ → ℕ → Timestamp
+abbrev pub midnight : ℕ → ℕ → Timestamp
 midnight month day = record { month = month; day = day; hour = 0; minute = 0; sign = 1; «dev_hour» = 0; «dev_minute» = 0 }
 
 -- the file with that day in the timestamp at an offset
@@ -374,6 +382,7 @@ fullFile =
             reason = 131;
             address = address;
             lost = 255;
+            statement = 2;
           };
       filter = 0x61 ∷ 0x62 ∷ 0x63 ∷ [];
       private = 1 ∷ 2 ∷ 3 ∷ 4 ∷ [];

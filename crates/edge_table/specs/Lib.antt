@@ -3,3 +3,4 @@ pub mod EdgeTable
 pub mod Shared
 pub mod Layout
 pub mod LossCounts
+pub mod Extensions

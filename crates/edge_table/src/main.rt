@@ -250,13 +250,15 @@ fn step(file: &[u8], at: usize) {
     end();
 }
 
-// The file written again, with these private octets, to an output of so many octets: the refusal, the octets written or needed, and
-// the output.
-fn written(file: &[u8], private: &[u8], output: &mut [u8]) {
+// The file written again, with this statement and these private octets, to an output of so many octets: the refusal, the octets written
+// or needed, and the output.
+fn written(file: &[u8], statement: u8, private: &[u8], output: &mut [u8]) {
     let c = reader::read(file);
+    let mut h = c.header;
+    h.statement = statement;
     let filter = reader::part_of(file, c.filter);
     let records = reader::part_of(file, c.records);
-    let w = writer::write(c.header, filter, private, records, output);
+    let w = writer::write(h, filter, private, records, output);
     field(b"written to ", output.len());
     field(b": ", w.refusal as usize);
     field(b" ", w.octets);
@@ -272,9 +274,9 @@ fn table_file_cases() {
     step(&file, 56);
     step(&file, 18446744073709551615);
     let mut long = [238u8; 58];
-    written(&file, private, &mut long);
+    written(&file, 0, private, &mut long);
     let mut short = [238u8; 55];
-    written(&file, private, &mut short);
+    written(&file, 0, private, &mut short);
 }
 
 // The file with the loss counts of document 02, ask 3, as the manager closes it: written, read, stepped over.
@@ -282,12 +284,48 @@ fn counted_file_cases() {
     let file = table_file();
     let none = counts::octets_of(0, 0);
     let mut counted = [238u8; 67];
-    written(&file, &none, &mut counted);
+    written(&file, 2, &none, &mut counted);
     let c = reader::read(&counted);
     counts_in(reader::part_of(&counted, c.private));
     step(&counted, 61);
     let mut short = [238u8; 66];
-    written(&file, &none, &mut short);
+    written(&file, 2, &none, &mut short);
+}
+
+fn octet_field(name: &[u8], n: u8) {
+    field(name, n as usize);
+}
+
+// What a file's header states of its private extension, and the octets of that.
+fn stated(file: &[u8]) {
+    let c = reader::read(file);
+    field(b"read of ", file.len());
+    field(b": ", c.refusal as usize);
+    octet_field(b", statement ", c.header.statement);
+    field(b", private octets ", c.private.octets);
+    end();
+}
+
+fn contradicted(file: &[u8], statement: u8, private: &[u8]) {
+    let mut output = [238u8; 60];
+    written(file, statement, private, &mut output);
+}
+
+// The file without a private extension, with an empty one and with one of an octet (document 02, ask 5), and statements that their octets
+// contradict.
+fn extension_cases() {
+    let file = table_file();
+    stated(&file);
+    let mut empty = [238u8; 58];
+    written(&file, 1, b"", &mut empty);
+    stated(&empty);
+    let mut some = [238u8; 59];
+    written(&file, 2, b"\xAA", &mut some);
+    stated(&some);
+    contradicted(&file, 0, b"\xAA");
+    contradicted(&file, 1, b"\xAA");
+    contradicted(&file, 2, b"");
+    contradicted(&file, 3, b"");
 }
 
 fn main() {
@@ -299,4 +337,5 @@ fn main() {
     damaged_records();
     table_file_cases();
     counted_file_cases();
+    extension_cases();
 }

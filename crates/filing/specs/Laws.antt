@@ -16,6 +16,7 @@ use Rattle.record.specs.Release.{headerLength}
 use Rattle.record.specs.Record.{recordOctets}
 use Rattle.record.specs.HeaderOctets.{fiveOctets, header-part, header-body}
 use Rattle.cdrfile.specs.declared.Header.{Header}
+use Rattle.cdrfile.specs.Statement.{agrees}
 use Rattle.cdrfile.specs.File.{fileOctets}
 use Rattle.cdrfile.specs.Needs.{Writable, Layable}
 use Rattle.state.specs.declared.Route.{Route}
@@ -84,6 +85,7 @@ module _ (n : Node) (r : Route) (reason : ℕ) (store : List ℕ) (from : ℕ) (
         let p = length-take-le (length output - at) (drop at output) (omega arith) in
         record {
           fields = rw eh writable;
+          stated = λ i. agrees (eh i .statement) (ep i);
           few = able .count;
           size = omega (arith, laid-length, able .size);
           room = omega (arith, laid-length, able .room);

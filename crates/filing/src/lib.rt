@@ -50,7 +50,7 @@ fn address_of(node: [u8; 16]) -> [u8; 20]
     address
 }
 
-// The header's fields at a closing. `lost` is the route's lost indicator.
+// The header's fields at a closing. `lost` is the route's lost indicator. The private extension has the loss counts' octets.
 fn header_for(n: Node, r: Route, reason: u8, lost: u8) -> Header
     requires { ⌜ Headed n r lost ⌝ }
     ensures { λ h. ⌜ h ≡ headerFor n r reason ⌝ }
@@ -71,6 +71,7 @@ fn header_for(n: Node, r: Route, reason: u8, lost: u8) -> Header
         reason: reason,
         address: address,
         lost: lost,
+        statement: 2,
     }
 }
 

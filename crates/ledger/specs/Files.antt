@@ -126,7 +126,7 @@ size-is l x f reason twenty most =
     let body = recordsOctets (f .records) in
     let n : length (filterOf s) ≡ s .octets = length-take-le (s .octets) (s .filter) (omega arith) in
     file-length (file .header) (filterOf s) (countOctets (x .losses) (x .unrouted)) body (length (f .records))
-    ∙ ap (λ (k : ℕ). k + length body) (header-size (file .header) (filterOf s) (x .losses) (x .unrouted))
+    ∙ ap (λ (k : ℕ). k + length body) (header-size (file .header) (filterOf s) (x .losses) (x .unrouted) refl)
     ∙ ap (λ (k : ℕ). headerSize k (file .header .high) (file .header .low) + length body) n
 
 -- A closing writes the ledger's file.
@@ -161,6 +161,7 @@ module _ (m : Manager) (store : List ℕ) (i reason : ℕ) (l : Ledger) (x : Lin
         reason = reason;
         address = 0xFF ∷ 0xFF ∷ 0xFF ∷ 0xFF ∷ address j;
         lost = indicator (losses j) (ltb 0 (unrouted j));
+        statement = 2;
       })
       (filterOf (settings j))
       (countOctets (losses j) (unrouted j))
@@ -220,6 +221,7 @@ module _ (l : Ledger) (x : Line) (f : OpenFile) (reason : ℕ) (h : Fileable l x
         reason = h .reason;
         address = (omega (arith, h .address .0), octets-cons ff (octets-cons ff (octets-cons ff (octets-cons ff (h .address .1)))));
         lost = indicator-small (x .losses) (ltb 0 (x .unrouted));
+        statement = refl;
         filter = (omega (arith, n, h .most), octets-take (s .octets) (h .filter));
         private = (omega arith, counts-octets (x .losses) (x .unrouted));
         records = h .records;

@@ -117,6 +117,7 @@ fileFrom l x f reason =
             reason = reason;
             address = 0xFF ∷ 0xFF ∷ 0xFF ∷ 0xFF ∷ l .address;
             lost = indicator (x .losses) (ltb 0 (x .unrouted));
+            statement = 2;
           };
       filter = filterOf (x .settings);
       private = countOctets (x .losses) (x .unrouted);

@@ -1,7 +1,7 @@
 -- The frame of a file: what refusals 8 and 9 judge and the places that follow from it, with the cases that the code meets.
 -- Assumes nothing.
 use mathlib.Core.Path.{_≡_, refl, sym, ap, _∙_}
-use mathlib.Core.Bool.{Bool, true, false, cond, not, _&&_, _||_}
+use mathlib.Core.Bool.{Bool, true, false, cond, not, _||_}
 use mathlib.Core.List.{List}
 use Prim.Native.Nat.{ℕ, zero, suc, _+_, _-_, _≤_, _<_}
 use native.Mathlib.Omega.{arith}
@@ -15,14 +15,14 @@ use Rattle.record.specs.Walk.{tallyOf, part-from}
 use Rattle.cdrfile.specs.declared.Header.{Header}
 use Rattle.reader.specs.declared.Frame.{Frame}
 use Rattle.reader.specs.declared.Part.{Part}
-use Rattle.reader.specs.Places.{headerLengthAt, filterLengthAt, extensionsOf, plainLength, hasPrivate, privateLengthAt, privatePart, extensionsAt, headerAt}
+use Rattle.reader.specs.Places.{headerLengthAt, filterLengthAt, extensionsOf, plainLength, hasPrivate, privateLengthAt, privatePart, statementAt, extensionsAt, headerAt}
 use Rattle.reader.specs.Reader.{wrongLength, wrongHeaderLength, wrongValue, wrongRecords, headerOf, bodyOf, verdict, refusedContents, contentsOf, settled, readOf}
 
 abbrev pub refusedFrame : ℕ → Frame
-refusedFrame n = record { refusal = n; header = 0; filter = 0; private = record { start = 0; octets = 0 } }
+refusedFrame n = record { refusal = n; header = 0; filter = 0; statement = 0; private = record { start = 0; octets = 0 } }
 
 abbrev pub frameAt : List ℕ → Frame
-frameAt xs = record { refusal = 0; header = headerLengthAt xs; filter = filterLengthAt xs; private = privatePart xs }
+frameAt xs = record { refusal = 0; header = headerLengthAt xs; filter = filterLengthAt xs; statement = statementAt xs; private = privatePart xs }
 
 unfoldable pub headerFrame : List ℕ → Frame
 headerFrame xs = cond (wrongHeaderLength xs) (refusedFrame 9) (frameAt xs)
@@ -49,47 +49,51 @@ module _ (xs : List ℕ) where
   pub over : length xs < headerLengthAt xs → headerFrame xs ≡ refusedFrame 9
   unfolding headerFrame wrongHeaderLength
   over h =
-      let w = or-left (hasPrivate xs && eqb (privateLengthAt xs) 0) (or-left (not (eqb (headerLengthAt xs) (plainLength xs + cond (hasPrivate xs) (2 + privateLengthAt xs) 0))) (or-right (ltb (headerLengthAt xs) 50) (lt-ltb _ _ h))) in
+      let w = or-left (not (eqb (headerLengthAt xs) (plainLength xs + cond (hasPrivate xs) (2 + privateLengthAt xs) 0))) (or-right (ltb (headerLengthAt xs) 50) (lt-ltb _ _ h)) in
       rw w
 
   unlike : (b : Bool) → hasPrivate xs ≡ b → (headerLengthAt xs ≡ plainLength xs + cond b (2 + privateLengthAt xs) 0 → ⊥) → headerFrame xs ≡ refusedFrame 9
   unfolding headerFrame wrongHeaderLength
   unlike b e h =
       let n = ap (λ (t : Bool). not (eqb (headerLengthAt xs) (plainLength xs + cond t (2 + privateLengthAt xs) 0))) e ∙ ap not (ne-eqb _ _ h) in
-      let w = or-left (hasPrivate xs && eqb (privateLengthAt xs) 0) (or-right (ltb (headerLengthAt xs) 50 || ltb (length xs) (headerLengthAt xs)) n) in
+      let w = or-right (ltb (headerLengthAt xs) 50 || ltb (length xs) (headerLengthAt xs)) n in
       rw w
 
   pub under : headerLengthAt xs < plainLength xs → headerFrame xs ≡ refusedFrame 9
   under h = unlike false (none-there (omega arith)) (λ e. omega arith)
 
+  -- the frame by whether there is a private extension
+  abbrev frameBy : Bool → Frame
+  frameBy b =
+      record {
+        refusal = 0;
+        header = headerLengthAt xs;
+        filter = filterLengthAt xs;
+        statement = cond b (cond (eqb (privateLengthAt xs) 0) 1 2) 0;
+        private = cond b (record { start = 52 + filterLengthAt xs; octets = privateLengthAt xs }) (record { start = 50 + filterLengthAt xs; octets = 0 });
+      }
+
   -- none of its conditions
   summed : (b : Bool) → hasPrivate xs ≡ b → headerLengthAt xs ≤ length xs → headerLengthAt xs ≡ plainLength xs + cond b (2 + privateLengthAt xs) 0
-      → (b && eqb (privateLengthAt xs) 0) ≡ false → headerFrame xs ≡ record { refusal = 0; header = headerLengthAt xs; filter = filterLengthAt xs; private = cond b (record { start = 52 + filterLengthAt xs; octets = privateLengthAt xs }) (record { start = 50 + filterLengthAt xs; octets = 0 }) }
+      → headerFrame xs ≡ frameBy b
   unfolding headerFrame wrongHeaderLength
-  summed b e most sum some =
+  summed b e most sum =
       let n = ap (λ (t : Bool). not (eqb (headerLengthAt xs) (plainLength xs + cond t (2 + privateLengthAt xs) 0))) e ∙ ap not (eq-eqb _ _ sum) in
-      let w = both-false (both-false (both-false (le-ltb (headerLengthAt xs) 50 (omega arith)) (le-ltb (length xs) (headerLengthAt xs) most)) n) (ap (λ (t : Bool). t && eqb (privateLengthAt xs) 0) e ∙ some) in
-      (λ i. cond (w i) (refusedFrame 9) (frameAt xs))
-      ∙ (λ i. record { refusal = 0; header = headerLengthAt xs; filter = filterLengthAt xs; private = cond (e i) (record { start = 52 + filterLengthAt xs; octets = privateLengthAt xs }) (record { start = 50 + filterLengthAt xs; octets = 0 }) })
+      let w = both-false (both-false (le-ltb (headerLengthAt xs) 50 (omega arith)) (le-ltb (length xs) (headerLengthAt xs) most)) n in
+      (λ i. cond (w i) (refusedFrame 9) (frameAt xs)) ∙ ap frameBy e
 
   pub plain-taken : headerLengthAt xs ≤ length xs → headerLengthAt xs ≡ plainLength xs
-      → headerFrame xs ≡ record { refusal = 0; header = headerLengthAt xs; filter = filterLengthAt xs; private = record { start = 50 + filterLengthAt xs; octets = 0 } }
-  plain-taken most same = summed false (none-there (omega arith)) most (omega arith) refl
+      → headerFrame xs ≡ record { refusal = 0; header = headerLengthAt xs; filter = filterLengthAt xs; statement = 0; private = record { start = 50 + filterLengthAt xs; octets = 0 } }
+  plain-taken most same = summed false (none-there (omega arith)) most (omega arith)
 
   module _ (more : plainLength xs < headerLengthAt xs) where
     pub unsummed : (headerLengthAt xs ≡ plainLength xs + 2 + privateLengthAt xs → ⊥) → headerFrame xs ≡ refusedFrame 9
     unsummed h = unlike true (private-there more) (λ e. h (e ∙ omega arith))
 
-    pub empty : privateLengthAt xs ≡ 0 → headerFrame xs ≡ refusedFrame 9
-    unfolding headerFrame wrongHeaderLength
-    empty e =
-        let both : (hasPrivate xs && eqb (privateLengthAt xs) 0) ≡ true = λ i. private-there more i && eq-eqb _ _ e i in
-        let w = or-right (ltb (headerLengthAt xs) 50 || ltb (length xs) (headerLengthAt xs) || not (eqb (headerLengthAt xs) (plainLength xs + cond (hasPrivate xs) (2 + privateLengthAt xs) 0))) both in
-        rw w
-
-    pub private-taken : headerLengthAt xs ≤ length xs → (privateLengthAt xs ≡ 0 → ⊥) → headerLengthAt xs ≡ plainLength xs + 2 + privateLengthAt xs
-        → headerFrame xs ≡ record { refusal = 0; header = headerLengthAt xs; filter = filterLengthAt xs; private = record { start = 52 + filterLengthAt xs; octets = privateLengthAt xs } }
-    private-taken most some sum = summed true (private-there more) most (sum ∙ omega arith) (ne-eqb _ _ some)
+    pub private-taken : headerLengthAt xs ≤ length xs → headerLengthAt xs ≡ plainLength xs + 2 + privateLengthAt xs
+        → headerFrame xs
+        ≡ record { refusal = 0; header = headerLengthAt xs; filter = filterLengthAt xs; statement = cond (eqb (privateLengthAt xs) 0) 1 2; private = record { start = 52 + filterLengthAt xs; octets = privateLengthAt xs } }
+    private-taken most sum = summed true (private-there more) most (sum ∙ omega arith)
 
   -- Refusal 8.
   pub frame-short : length xs < 50 → frameOf xs ≡ refusedFrame 8
@@ -121,7 +125,6 @@ pub record Sized (xs : List ℕ) : Type 0 where
   pub total : num 4 xs 0 ≡ length xs
   pub within : headerLengthAt xs ≤ length xs
   pub sum : headerLengthAt xs ≡ plainLength xs + cond (hasPrivate xs) (2 + privateLengthAt xs) 0
-  pub some : (hasPrivate xs && eqb (privateLengthAt xs) 0) ≡ false
 
 module _ (xs : List ℕ) where
   pub sized : wrongLength xs ≡ false → wrongHeaderLength xs ≡ false → Sized xs
@@ -130,8 +133,7 @@ module _ (xs : List ℕ) where
       let a = or-false (ltb (length xs) 50 || ltb 1048576 (length xs)) (not (eqb (num 4 xs 0) (length xs))) l in
       let b = or-false (ltb (length xs) 50) (ltb 1048576 (length xs)) (a .0) in
       let sum = plainLength xs + cond (hasPrivate xs) (2 + privateLengthAt xs) 0 in
-      let c = or-false (ltb (headerLengthAt xs) 50 || ltb (length xs) (headerLengthAt xs) || not (eqb (headerLengthAt xs) sum)) (hasPrivate xs && eqb (privateLengthAt xs) 0) h in
-      let d = or-false (ltb (headerLengthAt xs) 50 || ltb (length xs) (headerLengthAt xs)) (not (eqb (headerLengthAt xs) sum)) (c .0) in
+      let d = or-false (ltb (headerLengthAt xs) 50 || ltb (length xs) (headerLengthAt xs)) (not (eqb (headerLengthAt xs) sum)) h in
       let e = or-false (ltb (headerLengthAt xs) 50) (ltb (length xs) (headerLengthAt xs)) (d .0) in
       record {
         long = ltb-false (length xs) 50 (b .0);
@@ -139,7 +141,6 @@ module _ (xs : List ℕ) where
         total = eqb-true (num 4 xs 0) (length xs) (not-false (eqb (num 4 xs 0) (length xs)) (a .1));
         within = ltb-false (length xs) (headerLengthAt xs) (e .1);
         sum = eqb-true (headerLengthAt xs) sum (not-false (eqb (headerLengthAt xs) sum) (d .1));
-        some = c .1;
       }
 
   -- the release extensions end where the records begin
@@ -204,9 +205,9 @@ module _ (xs : List ℕ) (f : Frame) (r : RightFrame xs f) where
             ∙ sym (ap (λ (g : Frame). g .header) (r .is));
       }
 
-  module _ {h : Header} (eh : h ≡ headerAt xs (f .private .start + f .private .octets)) where
+  module _ {h : Header} (eh : h ≡ headerAt xs (f .statement) (f .private .start + f .private .octets)) where
     pub header-is : h ≡ headerOf xs
-    header-is = eh ∙ (λ i. headerAt xs (r .is i .private .start + r .is i .private .octets))
+    header-is = eh ∙ (λ i. headerAt xs (r .is i .statement) (r .is i .private .start + r .is i .private .octets))
 
     pub value-is : {v : Bool} → v ≡ wrongValue h (f .filter) (f .private) → v ≡ wrongValue (headerOf xs) (filterLengthAt xs) (privatePart xs)
     value-is e = e ∙ (λ i. wrongValue (header-is i) (r .is i .filter) (r .is i .private))

@@ -34,12 +34,16 @@ hasPrivate xs = ltb (plainLength xs) (headerLengthAt xs)
 abbrev pub privateLengthAt : List ℕ → ℕ
 privateLengthAt xs = num 2 xs (50 + filterLengthAt xs)
 
--- the private octets: behind their length, or none
+-- the private octets: behind their length, which may be 0, or none
 abbrev pub privatePart : List ℕ → Part
 privatePart xs =
     cond (hasPrivate xs)
     (record { start = 52 + filterLengthAt xs; octets = privateLengthAt xs })
     (record { start = 50 + filterLengthAt xs; octets = 0 })
+
+-- what the header states of its private extension (document 02, ask 5): 0 there is none, 1 an empty one, 2 one with octets
+abbrev pub statementAt : List ℕ → ℕ
+statementAt xs = cond (hasPrivate xs) (cond (eqb (privateLengthAt xs) 0) 1 2) 0
 
 -- where the release extensions begin
 abbrev pub extensionsAt : List ℕ → ℕ
@@ -50,9 +54,9 @@ abbrev pub releaseAt : List ℕ → ℕ → ℕ → Release
 releaseAt xs k e =
     record { release = getD xs k 0 / 32; extension = cond (eqb (getD xs k 0 / 32) 7) (getD xs e 0) 0; version = getD xs k 0 % 32 }
 
--- the header's fields, with the release extensions from e on
-unfoldable pub headerAt : List ℕ → ℕ → Header
-headerAt xs e =
+-- the header's fields, with what it states of its private extension, and the release extensions from e on
+unfoldable pub headerAt : List ℕ → ℕ → ℕ → Header
+headerAt xs statement e =
     record {
       high = releaseAt xs 8 e;
       low = releaseAt xs 9 (e + extensionsOf (getD xs 8 0));
@@ -62,4 +66,5 @@ headerAt xs e =
       reason = getD xs 26 0;
       address = octetsAt 20 xs 27;
       lost = getD xs 47 0;
+      statement = statement;
     }

@@ -16,19 +16,18 @@ use Rattle.cdrfile.specs.declared.Header.{Header}
 use Rattle.cdrfile.specs.Order.{wrongOrder}
 use Rattle.reader.specs.declared.Contents.{Contents}
 use Rattle.reader.specs.declared.Part.{Part}
-use Rattle.reader.specs.Places.{headerLengthAt, filterLengthAt, plainLength, hasPrivate, privateLengthAt, privatePart, extensionsAt, headerAt}
+use Rattle.reader.specs.Places.{headerLengthAt, filterLengthAt, plainLength, hasPrivate, privateLengthAt, privatePart, statementAt, extensionsAt, headerAt}
 
 -- 8: under 50 or over 1,048,576 octets, or unlike its length field
 unfoldable pub wrongLength : List ℕ → Bool
 wrongLength xs = ltb (length xs) 50 || ltb 1048576 (length xs) || not (eqb (num 4 xs 0) (length xs))
 
--- 9: header length under 50, over the file, or not the sum of its parts, or p 0
+-- 9: header length under 50, over the file, or not the sum of its parts; p may be 0 (document 02, ask 5)
 unfoldable pub wrongHeaderLength : List ℕ → Bool
 wrongHeaderLength xs =
     ltb (headerLengthAt xs) 50
     || ltb (length xs) (headerLengthAt xs)
     || not (eqb (headerLengthAt xs) (plainLength xs + cond (hasPrivate xs) (2 + privateLengthAt xs) 0))
-    || (hasPrivate xs && eqb (privateLengthAt xs) 0)
 
 -- 10: wrong timestamp, or f or p 65,535
 abbrev pub wrongValue : Header → ℕ → Part → Bool
@@ -44,7 +43,7 @@ wrongRecords h count t =
     ∷ []
 
 abbrev pub headerOf : List ℕ → Header
-headerOf xs = headerAt xs (extensionsAt xs)
+headerOf xs = headerAt xs (statementAt xs) (extensionsAt xs)
 
 -- the records' octets
 abbrev pub bodyOf : List ℕ → List ℕ
@@ -76,6 +75,7 @@ noHeader =
       reason = 0;
       address = replicate 20 0;
       lost = 0;
+      statement = 0;
     }
 
 abbrev pub nowhere : Part

@@ -4,6 +4,8 @@ use record::Release;
 use record::Tallied;
 use timestamp::Timestamp;
 ghost use mathlib.Core.Path.{_≡_};
+ghost use mathlib.Core.Bool.{cond};
+ghost use lib.Dec.{eqb};
 ghost use Prim.Native.Nat.{_+_, _≤_, _<_};
 ghost use lib.ListN.{length, getD};
 ghost use Rattle.octets.specs.Number.{octetsAt};
@@ -31,11 +33,13 @@ pub struct Contents {
     pub count: usize,
 }
 
-// What a header's lengths say: refusal 0 with the header's length, the filter's and the private part; or 8 or 9 with zeros.
+// What a header's lengths say: refusal 0 with the header's length, the filter's, what they state of a private extension and its part;
+// or 8 or 9 with zeros.
 struct Frame {
     refusal: u8,
     header: usize,
     filter: usize,
+    statement: u8,
     private: Part,
 }
 
@@ -46,6 +50,7 @@ fn refused_frame(number: u8) -> Frame
         refusal: number,
         header: 0,
         filter: 0,
+        statement: 0,
         private: Part {
             start: 0,
             octets: 0,
@@ -60,6 +65,13 @@ fn extensions_of(octet: u8) -> usize
     if octet / 32 == 7 { 1 } else { 0 }
 }
 
+// What a header states of its private extension, where it has one of so many octets.
+fn statement_of(octets: usize) -> u8
+    ensures { λ r. ⌜ r ≡ cond (eqb octets 0) 1 2 ⌝ }
+{
+    if octets == 0 { 1 } else { 2 }
+}
+
 // The frame of a header that is longer than filter and release extensions make it.
 fn private_frame(file: &[u8], header: usize, filter: usize, plain: usize) -> Frame
     requires { ⌜ Framed (now file) header filter plain ⌝ }
@@ -70,16 +82,15 @@ fn private_frame(file: &[u8], header: usize, filter: usize, plain: usize) -> Fra
         return refused_frame(9);
     }
     let octets = octets::num16(file, 50 + filter) as usize;
-    if octets == 0 {
-        return refused_frame(9);
-    }
     if header != plain + 2 + octets {
         return refused_frame(9);
     }
+    let statement = statement_of(octets);
     Frame {
         refusal: 0,
         header: header,
         filter: filter,
+        statement: statement,
         private: Part {
             start: 52 + filter,
             octets: octets,
@@ -108,6 +119,7 @@ fn header_frame(file: &[u8]) -> Frame
         refusal: 0,
         header: header,
         filter: filter,
+        statement: 0,
         private: Part {
             start: 50 + filter,
             octets: 0,
@@ -182,11 +194,11 @@ fn address_of(file: &[u8]) -> [u8; 20]
     ]
 }
 
-// The header's fields, with the release extensions from `extensions` on.
-fn header_of(file: &[u8], extensions: usize) -> Header
+// The header's fields, with what it states of its private extension, and the release extensions from `extensions` on.
+fn header_of(file: &[u8], statement: u8, extensions: usize) -> Header
     requires { ⌜ 50 ≤ length (now file) ⌝ }
     requires { ⌜ extensions + extensionsOf (getD (now file) 8 0) + extensionsOf (getD (now file) 9 0) ≤ length (now file) ⌝ }
-    ensures { λ r. ⌜ r ≡ headerAt (now (file .entry)) extensions ⌝ }
+    ensures { λ r. ⌜ r ≡ headerAt (now (file .entry)) statement extensions ⌝ }
 {
     let high = release_at(file, 8, extensions);
     let low = release_at(file, 9, extensions + extensions_of(file[8]));
@@ -203,6 +215,7 @@ fn header_of(file: &[u8], extensions: usize) -> Header
         reason: file[26],
         address: address,
         lost: file[47],
+        statement: statement,
     }
 }
 
@@ -263,6 +276,7 @@ fn no_header() -> Header
         reason: 0,
         address: [0u8; 20],
         lost: 0,
+        statement: 0,
     }
 }
 
@@ -291,7 +305,7 @@ fn read_framed(file: &[u8], f: Frame) -> Contents
     ensures { λ r. ⌜ r ≡ readOf (now (file .entry)) ⌝ }
 {
     let private = f.private;
-    let header = header_of(file, private.start + private.octets);
+    let header = header_of(file, f.statement, private.start + private.octets);
     if wrong_value(header, f.filter, private) {
         return refused(10);
     }

@@ -21,13 +21,14 @@ use Rattle.record.specs.Record.{Record, recordOctets, recordsOctets}
 use Rattle.record.specs.Format.{record-some, walks}
 use Rattle.record.specs.Walk.{records, walkOf, tallied}
 use Rattle.cdrfile.specs.declared.Header.{Header}
+use Rattle.cdrfile.specs.Statement.{stated-none, stated-there}
 use Rattle.cdrfile.specs.File.{File, fixedOctets, fileOctets, layout, headerLength, privateOctets}
 use Rattle.cdrfile.specs.Order.{wrongOrder}
 use Rattle.roundtrip.specs.Described.{RightFile}
 use Rattle.cdrfile.specs.Laws.{file-length, private-none, private-some, private-some-length, extension-seven}
 use Rattle.roundtrip.specs.Ordered.{not-wrong}
 use Rattle.reader.specs.declared.Part.{Part}
-use Rattle.reader.specs.Places.{headerLengthAt, filterLengthAt, extensionsOf, plainLength, privateLengthAt, privatePart, extensionsAt, headerAt}
+use Rattle.reader.specs.Places.{headerLengthAt, filterLengthAt, extensionsOf, plainLength, privateLengthAt, privatePart, statementAt, extensionsAt, headerAt}
 use Rattle.reader.specs.Reader.{wrongLength, wrongHeaderLength, wrongValue, headerOf, bodyOf, contentsOf, partOf}
 use Rattle.reader.specs.Frame.{headerFrame, right-frame, frame-on, plain-taken, private-taken}
 use Rattle.reader.specs.Parts.{part-within}
@@ -153,7 +154,7 @@ extended f = extensionOctets (f .header .high) ++ (extensionOctets (f .header .l
 -- A file's octets xs, of which only this is known: so nothing computes.
 record Laid (f : File) (xs : List ℕ) : Type 0 where
   says : Fixed xs (length xs) (headerLength (f .header) (f .filter) (f .private)) (length (f .records)) (length (f .filter)) (f .header)
-  behind : From 50 xs (f .filter ++ (privateOctets (f .private) ++ extended f))
+  behind : From 50 xs (f .filter ++ (privateOctets (f .header .statement) (f .private) ++ extended f))
   short : length xs ≤ 1048576
 
 module _ (f : File) (r : RightFile f) where
@@ -174,7 +175,7 @@ module _ (f : File) (r : RightFile f) where
   unfolding fileOctets
   laid-fixed = laid-says (headerLength (f .header) (f .filter) (f .private)) (length (recordsOctets (f .records))) small (count-most (f .records)) _
 
-  laid-behind : From 50 (layout f) (f .filter ++ (privateOctets (f .private) ++ extended f))
+  laid-behind : From 50 (layout f) (f .filter ++ (privateOctets (f .header .statement) (f .private) ++ extended f))
   unfolding fileOctets fixedOctets
   laid-behind = record { within = omega arith; is = refl }
 
@@ -192,6 +193,7 @@ record Framed (f : File) (xs : List ℕ) : Type 0 where
   header-right : wrongHeaderLength xs ≡ false
   part : Part
   is : privatePart xs ≡ part
+  is-statement : statementAt xs ≡ f .header .statement
   octets : length (f .private) ≡ part .octets
   there : From (part .start) xs (f .private ++ extended f)
 
@@ -209,11 +211,11 @@ module _ (f : File) (r : RightFile f) {xs : List ℕ} (l : Laid f xs) where
   plain-again = λ i. 50 + l .says .is-filter i + (high-extensions i + low-extensions i)
 
   -- where the parts stand
-  private-there : From (50 + length (f .filter)) xs (privateOctets (f .private) ++ extended f)
+  private-there : From (50 + length (f .filter)) xs (privateOctets (f .header .statement) (f .private) ++ extended f)
   private-there = next (f .filter) (l .behind)
 
-  extended-there : From (50 + length (f .filter) + length (privateOctets (f .private))) xs (extended f)
-  extended-there = next (privateOctets (f .private)) private-there
+  extended-there : From (50 + length (f .filter) + length (privateOctets (f .header .statement) (f .private))) xs (extended f)
+  extended-there = next (privateOctets (f .header .statement) (f .private)) private-there
 
   records-there : From (headerLength (f .header) (f .filter) (f .private)) xs (recordsOctets (f .records))
   records-there = next (extensionOctets (f .header .low)) (next (extensionOctets (f .header .high)) extended-there)
@@ -225,9 +227,9 @@ module _ (f : File) (r : RightFile f) {xs : List ℕ} (l : Laid f xs) where
   total = l .behind .within
 
   -- refusals 8 and 9 do not apply, and the frame's private part is q
-  framed : (p : Part) → headerFrame xs ≡ record { refusal = 0; header = headerLengthAt xs; filter = filterLengthAt xs; private = p }
-      → (q : Part) → p ≡ q → length (f .private) ≡ q .octets → From (q .start) xs (f .private ++ extended f) → Framed f xs
-  framed p e q same octets there =
+  framed : (p : Part) (m : ℕ) → headerFrame xs ≡ record { refusal = 0; header = headerLengthAt xs; filter = filterLengthAt xs; statement = m; private = p }
+      → m ≡ f .header .statement → (q : Part) → p ≡ q → length (f .private) ≡ q .octets → From (q .start) xs (f .private ++ extended f) → Framed f xs
+  framed p m e stated q same octets there =
       let g = frame-on xs total (l .short) (l .says .is-total) ∙ e in
       let w = right-frame xs refl (λ i. g i .refusal) in
       record {
@@ -235,47 +237,52 @@ module _ (f : File) (r : RightFile f) {xs : List ℕ} (l : Laid f xs) where
         header-right = w .header-right;
         part = q;
         is = sym (λ i. w .is i .private) ∙ (λ i. g i .private) ∙ same;
+        is-statement = sym (λ i. w .is i .statement) ∙ (λ i. g i .statement) ∙ stated;
         octets = octets;
         there = there;
       }
 
-  -- with no private octets the header is no longer than its other parts
-  framed-none : length (f .private) ≡ 0 → Framed f xs
+  -- with no private extension the header is no longer than its other parts
+  framed-none : f .header .statement ≡ 0 → Framed f xs
   framed-none z =
-      let n = ap length (private-none (f .private) z) in
-      framed (record { start = 50 + filterLengthAt xs; octets = 0 })
+      let nothing = private-none (f .header .statement) (f .private) z in
+      let none = stated-none (f .header .statement) (f .private) (r .statement) z in
+      let n = ap length nothing in
+      framed (record { start = 50 + filterLengthAt xs; octets = 0 }) 0
       (plain-taken xs within (l .says .is-header ∙ sym (plain-again ∙ omega arith)))
+      (sym z)
       (record { start = 50 + length (f .filter); octets = 0 })
       (λ i. record { start = 50 + l .says .is-filter i; octets = 0 })
-      z
-      (subst (λ (a : List ℕ). From (50 + length (f .filter)) xs (a ++ extended f)) (private-none (f .private) z ∙ sym (nil-of (f .private) z)) private-there)
+      none
+      (subst (λ (a : List ℕ). From (50 + length (f .filter)) xs (a ++ extended f)) (nothing ∙ sym (nil-of (f .private) none)) private-there)
 
-  module _ (some : length (f .private) ≡ 0 → ⊥) where
-    -- with some it is, and their length stands before them
+  module _ (some : f .header .statement ≡ 0 → ⊥) where
+    -- with one it is, and the octets' length stands before them, be it 0
     both-there : From (50 + length (f .filter)) xs (be 2 (length (f .private)) ++ (f .private ++ extended f))
-    both-there = subst (λ (a : List ℕ). From (50 + length (f .filter)) xs (a ++ extended f)) (private-some (f .private) some) private-there
+    both-there = subst (λ (a : List ℕ). From (50 + length (f .filter)) xs (a ++ extended f)) (private-some (f .header .statement) (f .private) some) private-there
 
     private-length : privateLengthAt xs ≡ length (f .private)
     private-length = ap (λ (n : ℕ). num 2 xs (50 + n)) (l .says .is-filter) ∙ from-two (length (f .private)) both-there (omega (arith, r .private .0))
 
     framed-some : Framed f xs
     framed-some =
-        let n = private-some-length (f .private) some in
+        let n = private-some-length (f .header .statement) (f .private) some in
         let s : headerLengthAt xs ≡ plainLength xs + 2 + privateLengthAt xs = omega (arith, l .says .is-header, plain-again, private-length) in
         let start : 50 + length (f .filter) + 2 ≡ 52 + length (f .filter) = omega arith in
-        framed (record { start = 52 + filterLengthAt xs; octets = privateLengthAt xs })
-        (private-taken xs (omega arith) within (λ z. some (sym private-length ∙ z)) s)
+        framed (record { start = 52 + filterLengthAt xs; octets = privateLengthAt xs }) (cond (eqb (privateLengthAt xs) 0) 1 2)
+        (private-taken xs (omega arith) within s)
+        (ap (λ (k : ℕ). cond (eqb k 0) 1 2) private-length ∙ stated-there (f .header .statement) (f .private) (r .statement) some)
         (record { start = 52 + length (f .filter); octets = length (f .private) })
         (λ i. record { start = 52 + l .says .is-filter i; octets = private-length i })
         refl
         (subst (λ (m : ℕ). From m xs (f .private ++ extended f)) start (next (be 2 (length (f .private))) both-there))
 
   frame-again : Framed f xs
-  frame-again = by-private (ℕ-discrete (length (f .private)) 0)
+  frame-again = by-statement (ℕ-discrete (f .header .statement) 0)
     where
-      by-private : Dec (length (f .private) ≡ 0) → Framed f xs
-      by-private (yes z) = framed-none z
-      by-private (no some) = framed-some some
+      by-statement : Dec (f .header .statement ≡ 0) → Framed f xs
+      by-statement (yes z) = framed-none z
+      by-statement (no some) = framed-some some
 
   -- the release extensions are where the reader looks for them
   high-there : From (extensionsAt xs) xs (extended f)
@@ -303,6 +310,7 @@ module _ (f : File) (r : RightFile f) {xs : List ℕ} (l : Laid f xs) where
         reason = l .says .is-reason i;
         address = l .says .is-address i;
         lost = l .says .is-lost i;
+        statement = frame-again .is-statement i;
       }
 
   value-again : wrongValue (headerOf xs) (filterLengthAt xs) (privatePart xs) ≡ false
@@ -332,7 +340,7 @@ module _ (f : File) (r : RightFile f) {xs : List ℕ} (l : Laid f xs) where
       }
 
   filter-again : partOf xs (record { start = 50; octets = filterLengthAt xs }) ≡ f .filter
-  filter-again = from-part (f .filter) (privateOctets (f .private) ++ extended f) (record { start = 50; octets = filterLengthAt xs }) (l .behind) (sym (l .says .is-filter))
+  filter-again = from-part (f .filter) (privateOctets (f .header .statement) (f .private) ++ extended f) (record { start = 50; octets = filterLengthAt xs }) (l .behind) (sym (l .says .is-filter))
 
   private-again : partOf xs (privatePart xs) ≡ f .private
   private-again = let w = frame-again in ap (partOf xs) (w .is) ∙ from-part (f .private) (extended f) (w .part) (w .there) (w .octets)

@@ -1,14 +1,15 @@
 -- DEMAND 2 of document 01, stated alone: read this file without its proof (Proof.antt).
 --
 -- In plain words. Octets x are accepted by the reader exactly when document 01 describes them, that is when they are the
--- layout of right fields and right records, timestamps of days that exist (document 02, ask 2) among them; the fields and
--- records that the reader hands back are those, and no others have the same octets. The count and the header's length that it
--- hands back are those that the file says, and stepping from the records' start, as often as the count says, gives the
--- records' headers and bodies and ends at the file's end. Any other octets get the first number of 8 to 13, in order, whose
--- condition holds. The writer accepts exactly right fields and records whose file fits the output, and what it then writes is
--- their layout, with the octets behind it as they were. What it wrote the reader accepts and hands back, fields and records.
--- What the reader accepts, the writer writes again with the same octets. Two different sets of fields and records that the
--- writer accepts never have the same file.
+-- layout of right fields and right records, timestamps of days that exist (document 02, ask 2) among them, and a statement of
+-- the private extension, none, empty or with octets, that its octets bear out (ask 5); the fields and records that the reader
+-- hands back are those, the statement with the rest, and no others have the same octets. The count and the header's length
+-- that it hands back are those that the file says, and stepping from the records' start, as often as the count says, gives
+-- the records' headers and bodies and ends at the file's end. Any other octets get the first number of 8 to 13, in order,
+-- whose condition holds. The writer accepts exactly right fields and records whose file fits the output, and what it then
+-- writes is their layout, with the octets behind it as they were. What it wrote the reader accepts and hands back, fields and
+-- records. What the reader accepts, the writer writes again with the same octets. Two different sets of fields and records
+-- that the writer accepts never have the same file.
 --
 -- `readOf` and `writeOf` are the definitions that the contracts of reader::read and writer::write cite, over every input;
 -- `layout` (cdrfile, File) and `RightFile` (Described) are what a file is; `handedBack` is what a caller takes from the reader's

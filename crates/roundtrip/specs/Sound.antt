@@ -1,12 +1,12 @@
 -- What the reader accepts is a right file, and its octets are that file's layout (document 01, Reader). Assumes nothing.
 use mathlib.Core.Path.{_≡_, refl, sym, ap, _∙_}
-use mathlib.Core.Bool.{Bool, true, false, cond, not, _&&_, _||_}
+use mathlib.Core.Bool.{Bool, true, false, cond, not, _||_}
 use mathlib.Core.List.{List, [], _∷_, _++_}
 use Prim.Native.Nat.{ℕ, _+_, _-_, _*_, _/_, _%_, _≤_, _<_}
 use native.Mathlib.Nat.{add-zero}
 use native.Mathlib.Numerals.{add-one}
 use native.Mathlib.Omega.{arith}
-use lib.Dec.{eqb}
+use lib.Dec.{eqb, ltb}
 use lib.ListN.{length, getD, take, drop, length-drop, take-append-drop}
 use lib.Seq.{drop-cons, drop-drop, length-take-le}
 use borrow.Author.Tests.{eqb-true, eqb-false, not-false}
@@ -16,12 +16,13 @@ use Rattle.timestamp.specs.Timestamp.{fieldsOf, right, Right, right-bounds, nar
 use Rattle.record.specs.Release.{NarrowRelease, extensionOctets}
 use Rattle.record.specs.Record.{Record, AllRight, recordsOctets}
 use Rattle.record.specs.Format.{walked}
+use Rattle.cdrfile.specs.Statement.{agrees}
 use Rattle.cdrfile.specs.File.{File, privateOctets, headerLength, fixedOctets, fileOctets, layout}
 use Rattle.roundtrip.specs.Described.{RightFile}
 use Rattle.roundtrip.specs.Ordered.{ordered}
-use Rattle.cdrfile.specs.Laws.{private-none, private-some, private-some-length}
+use Rattle.cdrfile.specs.Laws.{private-some, private-some-length}
 use Rattle.reader.specs.declared.Part.{Part}
-use Rattle.reader.specs.Places.{headerLengthAt, filterLengthAt, extensionsOf, hasPrivate, privateLengthAt, privatePart, extensionsAt, releaseAt, headerAt}
+use Rattle.reader.specs.Places.{headerLengthAt, filterLengthAt, extensionsOf, hasPrivate, privateLengthAt, privatePart, statementAt, extensionsAt, releaseAt, headerAt}
 use Rattle.reader.specs.Reader.{headerOf, bodyOf}
 use Rattle.reader.specs.Frame.{Sized, sized, records-begin}
 use Rattle.roundtrip.specs.Accepted.{Accepted}
@@ -32,6 +33,18 @@ partBy b xs = cond b (record { start = 52 + filterLengthAt xs; octets = privateL
 
 abbrev privateBy : Bool → List ℕ → List ℕ
 privateBy b xs = take (partBy b xs .octets) (drop (partBy b xs .start) xs)
+
+abbrev statementBy : Bool → List ℕ → ℕ
+statementBy b xs = cond b (cond (eqb (privateLengthAt xs) 0) 1 2) 0
+
+-- an extension that is there is stated, and as its octets are
+there-by : (b : Bool) → _≡_ {A = ℕ} (cond b 1 2) 0 → ⊥
+there-by true e = omega arith
+there-by false e = omega arith
+
+agrees-by : (b : Bool) → cond b (ltb (cond b 1 2) 2) (eqb (cond b 1 2) 2) ≡ true
+agrees-by true = refl
+agrees-by false = refl
 
 -- the file that some octets say
 abbrev pub fileAt : List ℕ → List Record → File
@@ -54,19 +67,18 @@ module _ {xs : List ℕ} (o : Octets xs) where
   extension-there k e h = extension-by (eqb (getD xs k 0 / 32) 7) e h
 
   -- the private extension, where there is one
-  private-by : (b : Bool) → (b && eqb (privateLengthAt xs) 0) ≡ false → partBy b xs .start + partBy b xs .octets ≤ length xs
+  private-by : (b : Bool) → partBy b xs .start + partBy b xs .octets ≤ length xs
       → (length (privateBy b xs) ≡ partBy b xs .octets)
-      × (privateOctets (privateBy b xs) ++ drop (partBy b xs .start + partBy b xs .octets) xs ≡ drop (50 + filterLengthAt xs) xs)
-  private-by false some h = (refl, ap (λ (n : ℕ). drop n xs) (add-zero (50 + filterLengthAt xs)))
-  private-by true some h =
+      × (privateOctets (statementBy b xs) (privateBy b xs) ++ drop (partBy b xs .start + partBy b xs .octets) xs ≡ drop (50 + filterLengthAt xs) xs)
+  private-by false h = (refl, ap (λ (n : ℕ). drop n xs) (add-zero (50 + filterLengthAt xs)))
+  private-by true h =
       let f = filterLengthAt xs in
       let p = privateLengthAt xs in
       let mine = take p (drop (52 + f) xs) in
       let n : length mine ≡ p = length-take-le p (drop (52 + f) xs) (omega (arith, length-drop (52 + f) xs)) in
-      let there : length mine ≡ 0 → ⊥ = λ z. eqb-false p 0 some (sym n ∙ z) in
       let two : 52 + f ≡ 50 + f + 2 = omega arith in (
         n,
-        ap (λ (l : List ℕ). l ++ drop (52 + f + p) xs) (private-some mine there)
+        ap (λ (l : List ℕ). l ++ drop (52 + f + p) xs) (private-some (statementBy true xs) mine (there-by (eqb p 0)))
             ∙ (λ i. be 2 (n i) ++ (mine ++ sym (drop-drop p (52 + f) xs) i))
             ∙ ap (λ (l : List ℕ). be 2 p ++ l) (take-append-drop p (drop (52 + f) xs) ∙ ap (λ (k : ℕ). drop k xs) two)
             ∙ be-num o 2 (50 + f) (omega arith),
@@ -107,9 +119,13 @@ module _ {xs : List ℕ} (o : Octets xs) where
   extension-length true x = refl
   extension-length false x = refl
 
-  private-length : (b : Bool) (p : List ℕ) → length p ≡ partBy b xs .octets → (b && eqb (privateLengthAt xs) 0) ≡ false → length (privateOctets p) ≡ cond b (2 + privateLengthAt xs) 0
-  private-length true p e some = private-some-length p (λ z. eqb-false (privateLengthAt xs) 0 some (sym e ∙ z)) ∙ ap (λ (n : ℕ). 2 + n) e
-  private-length false p e some = ap length (private-none p e)
+  private-length : (b : Bool) (p : List ℕ) → length p ≡ partBy b xs .octets → length (privateOctets (statementBy b xs) p) ≡ cond b (2 + privateLengthAt xs) 0
+  private-length true p e = private-some-length (statementBy true xs) p (there-by (eqb (privateLengthAt xs) 0)) ∙ ap (λ (n : ℕ). 2 + n) e
+  private-length false p e = refl
+
+  stated-by : (b : Bool) → length (privateBy b xs) ≡ partBy b xs .octets → agrees (statementBy b xs) (privateBy b xs) ≡ true
+  stated-by true e = (λ i. cond (eqb (e i) 0) (ltb (statementBy true xs) 2) (eqb (statementBy true xs) 2)) ∙ agrees-by (eqb (privateLengthAt xs) 0)
+  stated-by false e = refl
 
   module _ (rs : List Record) (a : Accepted xs rs) where
     size : Sized xs
@@ -127,20 +143,20 @@ module _ {xs : List ℕ} (o : Octets xs) where
     begin = records-begin xs size
 
     private-again : (length (privateBy (hasPrivate xs) xs) ≡ privatePart xs .octets)
-        × (privateOctets (privateBy (hasPrivate xs) xs) ++ drop (extensionsAt xs) xs ≡ drop (50 + filterLengthAt xs) xs)
-    private-again = private-by (hasPrivate xs) (size .some) (omega (arith, begin, size .within))
+        × (privateOctets (statementAt xs) (privateBy (hasPrivate xs) xs) ++ drop (extensionsAt xs) xs ≡ drop (50 + filterLengthAt xs) xs)
+    private-again = private-by (hasPrivate xs) (omega (arith, begin, size .within))
 
     -- the header's length as the layout adds it
     header-sum : headerLength (headerOf xs) (fileAt xs rs .filter) (fileAt xs rs .private) ≡ headerLengthAt xs
     unfolding headerAt
     header-sum =
-        let p = private-length (hasPrivate xs) (privateBy (hasPrivate xs) xs) (private-again .0) (size .some) in
+        let p = private-length (hasPrivate xs) (privateBy (hasPrivate xs) xs) (private-again .0) in
         let h = extension-length (eqb (getD xs 8 0 / 32) 7) (headerOf xs .high .extension) in
         let l = extension-length (eqb (getD xs 9 0 / 32) 7) (headerOf xs .low .extension) in
         omega (arith, filter-length, size .sum)
 
     -- what stands behind octet 50
-    tail-again : take (filterLengthAt xs) (drop 50 xs) ++ (privateOctets (privateBy (hasPrivate xs) xs)
+    tail-again : take (filterLengthAt xs) (drop 50 xs) ++ (privateOctets (headerOf xs .statement) (privateBy (hasPrivate xs) xs)
         ++ (extensionOctets (headerOf xs .high) ++ (extensionOctets (headerOf xs .low) ++ recordsOctets rs))) ≡ drop 50 xs
     unfolding headerAt
     tail-again =
@@ -150,7 +166,7 @@ module _ {xs : List ℕ} (o : Octets xs) where
         let place : e + h + l ≡ headerLengthAt xs = omega (arith, begin) in
         let low = onto (extensionOctets (headerOf xs .low)) (body .1 ∙ ap (λ (n : ℕ). drop n xs) (sym place)) (extension-there 9 (e + h) (omega (arith, size .within))) in
         let high = onto (extensionOctets (headerOf xs .high)) low (extension-there 8 e (omega (arith, size .within))) in
-        let private = onto (privateOctets (privateBy (hasPrivate xs) xs)) high (private-again .1) in
+        let private = onto (privateOctets (statementAt xs) (privateBy (hasPrivate xs) xs)) high (private-again .1) in
         onto (take (filterLengthAt xs) (drop 50 xs)) (private ∙ sym (drop-drop (filterLengthAt xs) 50 xs)) (take-append-drop (filterLengthAt xs) (drop 50 xs))
 
     pub layout-again : layout (fileAt xs rs) ≡ xs
@@ -159,7 +175,7 @@ module _ {xs : List ℕ} (o : Octets xs) where
         let f = fileAt xs rs in
         let far : length (recordsOctets rs) ≡ length xs - headerLengthAt xs = ap length (body .1) ∙ length-drop (headerLengthAt xs) xs in
         let total : headerLength (headerOf xs) (f .filter) (f .private) + length (recordsOctets rs) ≡ num 4 xs 0 = omega (arith, header-sum, size .within, size .total) in
-        let tail = f .filter ++ (privateOctets (f .private) ++ (extensionOctets (headerOf xs .high) ++ (extensionOctets (headerOf xs .low) ++ recordsOctets rs))) in
+        let tail = f .filter ++ (privateOctets (headerOf xs .statement) (f .private) ++ (extensionOctets (headerOf xs .high) ++ (extensionOctets (headerOf xs .low) ++ recordsOctets rs))) in
         (λ i. fixedOctets (total i) (header-sum i) (sym (a .count) i) (filter-length i) (headerOf xs) ++ tail)
         ∙ ap (λ (l : List ℕ). fixedOctets (num 4 xs 0) (num 4 xs 4) (num 4 xs 18) (num 2 xs 48) (headerOf xs) ++ l) tail-again
         ∙ fixed-again (drop 50 xs)
@@ -214,6 +230,7 @@ module _ {xs : List ℕ} (o : Octets xs) where
           reason = o .at 26;
           address = (octetsAt-length 20 xs 27, octetsAt-octets 20 27 o);
           lost = o .at 47;
+          statement = stated-by (hasPrivate xs) (private-again .0);
           filter = (let u = v .2 in omega (arith, filter-length, num-lt o 2 48), octets-take (filterLengthAt xs) (octets-drop 50 o));
           private =
               (let u = v .3 in omega (arith, private-again .0, private-most (hasPrivate xs)), octets-take (privatePart xs .octets) (octets-drop (privatePart xs .start) o));

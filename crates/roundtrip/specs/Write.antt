@@ -20,13 +20,14 @@ use Rattle.record.specs.Order.{narrowed, narrow-true}
 use Rattle.record.specs.Walk.{Walked, records, broken, walkOf, tallied, tallyOf}
 use Rattle.record.specs.Format.{walked, walks}
 use Rattle.cdrfile.specs.declared.Header.{Header}
+use Rattle.cdrfile.specs.Statement.{agrees}
 use Rattle.cdrfile.specs.File.{File, fileOctets, layout}
 use Rattle.cdrfile.specs.Order.{wrongOrder}
 use Rattle.roundtrip.specs.Described.{RightFile}
 use Rattle.cdrfile.specs.Laws.{file-length}
 use Rattle.roundtrip.specs.Ordered.{ordered, not-wrong}
-use Rattle.writer.specs.Writer.{After, beyondWidth, wrongValue, neededOctets, verdict, settled, written, writeOf}
-use Rattle.writer.specs.Cases.{Passed, write-done, short}
+use Rattle.writer.specs.Writer.{After, wrongFields, wrongValue, neededOctets, verdict, settled, written, writeOf}
+use Rattle.writer.specs.Cases.{Passed, write-done, short, stated}
 use Rattle.roundtrip.specs.Held.{Held}
 
 -- a right file's are so held
@@ -79,7 +80,7 @@ module _ (h : Header) (filter private body output : List ℕ) where
       let r13 = (13 when wrongOrder (h .high) (h .low) (tallyOf body)) ∷ r8 in
       let r11 = (11 when not (eqb (tallyOf body .refusal) 0)) ∷ r13 in
       let r10 = (10 when wrongValue h filter private) ∷ r11 in
-      let p2 = passed 1 (beyondWidth h) r10 e in
+      let p2 = passed 1 (wrongFields h private) r10 e in
       let p10 = passed 9 (wrongValue h filter private) r11 (p2 .1) in
       let p11 = passed 10 (not (eqb (tallyOf body .refusal) 0)) r13 (p10 .1) in
       let p13 = passed 12 (wrongOrder (h .high) (h .low) (tallyOf body)) r8 (p11 .1) in
@@ -89,7 +90,7 @@ module _ (h : Header) (filter private body output : List ℕ) where
       let w = by-walk (walkOf body) refl whole in (
         w .0,
         record {
-          passed = record { narrow = p2 .0; right = p10 .0; whole = whole; ordered = p13 .0 };
+          passed = record { fields = p2 .0; right = p10 .0; whole = whole; ordered = p13 .0 };
           walk = w .1;
           size = ltb-false 1048576 n (p8 .0);
           room = ltb-false (length output) n (p17 .0);
@@ -104,8 +105,9 @@ module _ (h : Header) (filter private body output : List ℕ) where
     -- what 2 and 10 leave open
     widths : (narrowRelease (h .high) ≡ true) × (narrowRelease (h .low) ≡ true) × (narrow (h .opened) ≡ true) × (narrow (h .appended) ≡ true)
     widths =
-        let all = not-false (narrowRelease (h .high) && narrowRelease (h .low) && narrow (h .opened) && narrow (h .appended)) (t .passed .narrow) in
-        let a = both (narrowRelease (h .high) && narrowRelease (h .low) && narrow (h .opened)) (narrow (h .appended)) all in
+        let all = not-false (narrowRelease (h .high) && narrowRelease (h .low) && narrow (h .opened) && narrow (h .appended) && agrees (h .statement) private) (t .passed .fields) in
+        let d = both (narrowRelease (h .high) && narrowRelease (h .low) && narrow (h .opened) && narrow (h .appended)) (agrees (h .statement) private) all in
+        let a = both (narrowRelease (h .high) && narrowRelease (h .low) && narrow (h .opened)) (narrow (h .appended)) (d .0) in
         let b = both (narrowRelease (h .high) && narrowRelease (h .low)) (narrow (h .opened)) (a .0) in
         let c = both (narrowRelease (h .high)) (narrowRelease (h .low)) (b .0) in
         (c .0, c .1, b .1, a .1)
@@ -134,6 +136,7 @@ module _ (h : Header) (filter private body output : List ℕ) where
           reason = held .reason;
           address = held .address;
           lost = held .lost;
+          statement = stated h private (t .passed .fields);
           filter = (s .0, of);
           private = (s .1, op);
           records = walked body rs ob (t .walk) .0;
@@ -165,12 +168,12 @@ module _ (f : File) (r : RightFile f) (output : List ℕ) (room : length (layout
   pub taken-right : Taken h (f .filter) (f .private) body output (f .records)
   taken-right =
       let n = file-length h (f .filter) (f .private) body (length (f .records)) in
-      let wide : (narrowRelease (h .high) && narrowRelease (h .low) && narrow (h .opened) && narrow (h .appended)) ≡ true =
-      λ i. narrow-true (h .high) (r .high) i && narrow-true (h .low) (r .low) i && bounds-narrow (h .opened) (right-narrow (h .opened) (r .opened)) i && bounds-narrow (h .appended) (right-narrow (h .appended) (r .appended)) i in
+      let fit : (narrowRelease (h .high) && narrowRelease (h .low) && narrow (h .opened) && narrow (h .appended) && agrees (h .statement) (f .private)) ≡ true =
+      λ i. narrow-true (h .high) (r .high) i && narrow-true (h .low) (r .low) i && bounds-narrow (h .opened) (right-narrow (h .opened) (r .opened)) i && bounds-narrow (h .appended) (right-narrow (h .appended) (r .appended)) i && r .statement i in
       record {
         passed =
             record {
-              narrow = ap not wide;
+              fields = ap not fit;
               right = both-false (both-false (both-false (ap not (bounds-right (h .opened) (r .opened))) (ap not (bounds-right (h .appended) (r .appended)))) (le-ltb 65534 (length (f .filter)) (r .filter .0))) (le-ltb 65534 (length (f .private)) (r .private .0));
               whole = ap (λ (t : Tallied). t .refusal) tally-right;
               ordered = ap (wrongOrder (h .high) (h .low)) tally-right ∙ not-wrong (h .high) (h .low) (f .records) (r .ordered);

@@ -18,12 +18,13 @@ use Rattle.record.specs.Release.{narrowRelease, extensionOctets}
 use Rattle.record.specs.Order.{in-width}
 use Rattle.record.specs.Walk.{tallyOf}
 use Rattle.cdrfile.specs.declared.Header.{Header}
+use Rattle.cdrfile.specs.Statement.{agrees}
 use Rattle.cdrfile.specs.File.{privateOctets, headerLength, fileOctets}
 use Rattle.cdrfile.specs.Order.{wrongOrder}
 use Rattle.cdrfile.specs.Laws.{file-length}
 use Rattle.cdrfile.specs.Needs.{Writable, Layable}
 use Rattle.writer.specs.declared.Written.{Written}
-use Rattle.writer.specs.Writer.{after, written, beyondWidth, wrongValue, neededOctets, verdict, writeOf}
+use Rattle.writer.specs.Writer.{after, written, wrongFields, wrongValue, neededOctets, verdict, writeOf}
 use Rattle.writer.specs.Count.{four-each}
 
 -- the call's answer from its two numbers
@@ -32,17 +33,17 @@ answered refusal octets = record { refusal = refusal; octets = octets }
 
 -- none of 2, 10, 11 and 13 applies
 pub record Passed (h : Header) (filter private records : List ℕ) : Type 0 where
-  pub narrow : beyondWidth h ≡ false
+  pub fields : wrongFields h private ≡ false
   pub right : wrongValue h filter private ≡ false
   pub whole : tallyOf records .refusal ≡ 0
   pub ordered : wrongOrder (h .high) (h .low) (tallyOf records) ≡ false
 
 module _ (h : Header) (filter private records output : List ℕ) where
-  pub write-beyond : beyondWidth h ≡ true → after (answered 2 0) output ≡ writeOf h filter private records output
+  pub write-unfit : wrongFields h private ≡ true → after (answered 2 0) output ≡ writeOf h filter private records output
   unfolding writeOf verdict
-  write-beyond a = sym (rw a)
+  write-unfit a = sym (rw a)
 
-  module _ (a : beyondWidth h ≡ false) where
+  module _ (a : wrongFields h private ≡ false) where
     pub write-wrong : wrongValue h filter private ≡ true → after (answered 10 0) output ≡ writeOf h filter private records output
     unfolding writeOf verdict
     write-wrong b = sym (rw (a, b))
@@ -60,17 +61,17 @@ module _ (h : Header) (filter private records output : List ℕ) where
   module _ (p : Passed h filter private records) where
     pub write-long : 1048576 < neededOctets h filter private records → after (answered 8 0) output ≡ writeOf h filter private records output
     unfolding writeOf verdict
-    write-long e = sym (rw (p .narrow, p .right, eq-eqb _ _ (p .whole), p .ordered, lt-ltb _ _ e))
+    write-long e = sym (rw (p .fields, p .right, eq-eqb _ _ (p .whole), p .ordered, lt-ltb _ _ e))
 
     module _ (e : neededOctets h filter private records ≤ 1048576) where
       pub write-needing : length output < neededOctets h filter private records
           → after (answered 17 (neededOctets h filter private records)) output ≡ writeOf h filter private records output
       unfolding writeOf verdict
-      write-needing f = sym (rw (p .narrow, p .right, eq-eqb _ _ (p .whole), p .ordered, le-ltb _ _ e, lt-ltb _ _ f))
+      write-needing f = sym (rw (p .fields, p .right, eq-eqb _ _ (p .whole), p .ordered, le-ltb _ _ e, lt-ltb _ _ f))
 
       pub write-done : neededOctets h filter private records ≤ length output → written h filter private records output ≡ writeOf h filter private records output
       unfolding writeOf verdict
-      write-done f = sym (rw (p .narrow, p .right, eq-eqb _ _ (p .whole), p .ordered, le-ltb _ _ e, le-ltb _ _ f))
+      write-done f = sym (rw (p .fields, p .right, eq-eqb _ _ (p .whole), p .ordered, le-ltb _ _ e, le-ltb _ _ f))
 
   -- what the code puts together, from the length and the number of records that it worked out, is the answer and the file
   pub written-made : {answer : Written} {out : List ℕ} {octets count : ℕ} → answer ≡ answered 0 octets → octets ≡ neededOctets h filter private records
@@ -79,23 +80,31 @@ module _ (h : Header) (filter private records output : List ℕ) where
 
 -- What the tests that were passed say.
 
--- each field of the header fits its bits
-pub writable : (h : Header) → beyondWidth h ≡ false → Writable h
-writable h e =
-    let all = not-false (narrowRelease (h .high) && narrowRelease (h .low) && narrow (h .opened) && narrow (h .appended)) e in
-    let t = both (narrowRelease (h .high) && narrowRelease (h .low) && narrow (h .opened)) (narrow (h .appended)) all in
-    let u = both (narrowRelease (h .high) && narrowRelease (h .low)) (narrow (h .opened)) (t .0) in
-    let v = both (narrowRelease (h .high)) (narrowRelease (h .low)) (u .0) in
-    let high = in-width (h .high) (v .0) in
-    let low = in-width (h .low) (v .1) in
-    record {
-      high = high .release;
-      high-version = high .version;
-      low = low .release;
-      low-version = low .version;
-      opened = narrow-bounds (h .opened) (u .1);
-      appended = narrow-bounds (h .appended) (t .1);
-    }
+-- each field of the header fits its bits, and the private octets are as it states
+module _ (h : Header) (private : List ℕ) (e : wrongFields h private ≡ false) where
+  tests : (narrowRelease (h .high) && narrowRelease (h .low) && narrow (h .opened) && narrow (h .appended) ≡ true) × (agrees (h .statement) private ≡ true)
+  tests =
+      let all = not-false (narrowRelease (h .high) && narrowRelease (h .low) && narrow (h .opened) && narrow (h .appended) && agrees (h .statement) private) e in
+      both (narrowRelease (h .high) && narrowRelease (h .low) && narrow (h .opened) && narrow (h .appended)) (agrees (h .statement) private) all
+
+  pub stated : agrees (h .statement) private ≡ true
+  stated = tests .1
+
+  pub writable : Writable h
+  writable =
+      let t = both (narrowRelease (h .high) && narrowRelease (h .low) && narrow (h .opened)) (narrow (h .appended)) (tests .0) in
+      let u = both (narrowRelease (h .high) && narrowRelease (h .low)) (narrow (h .opened)) (t .0) in
+      let v = both (narrowRelease (h .high)) (narrowRelease (h .low)) (u .0) in
+      let high = in-width (h .high) (v .0) in
+      let low = in-width (h .low) (v .1) in
+      record {
+        high = high .release;
+        high-version = high .version;
+        low = low .release;
+        low-version = low .version;
+        opened = narrow-bounds (h .opened) (u .1);
+        appended = narrow-bounds (h .appended) (t .1);
+      }
 
 -- filter and private octets fit their length fields
 pub short : (h : Header) (filter private : List ℕ) → wrongValue h filter private ≡ false → (length filter ≤ 65534) × (length private ≤ 65534)
@@ -105,8 +114,8 @@ short h filter private e =
     (ltb-false 65534 (length filter) (u .1), ltb-false 65534 (length private) (t .1))
 
 -- so the header is short, and the sum of its length and that of any slice fits a machine word
-private-most : (p : List ℕ) → length (privateOctets p) ≤ 2 + length p
-private-most p = most (eqb (length p) 0)
+private-most : (statement : ℕ) (p : List ℕ) → length (privateOctets statement p) ≤ 2 + length p
+private-most statement p = most (eqb statement 0)
   where
     most : (b : Bool) → length (cond b [] (be 2 (length p) ++ p)) ≤ 2 + length p
     most true = omega arith
@@ -122,12 +131,12 @@ extension-most r = most (eqb (r .release) 7)
 pub header-most : (h : Header) (filter private : List ℕ) → wrongValue h filter private ≡ false → headerLength h filter private ≤ 131122
 header-most h filter private e =
     let s = short h filter private e in
-    omega (arith, private-most private, extension-most (h .high), extension-most (h .low))
+    omega (arith, private-most (h .statement) private, extension-most (h .high), extension-most (h .low))
 
 -- so a file that is short enough can be laid out over an output that is long enough
-pub layable : (h : Header) (filter private records output : List ℕ) → beyondWidth h ≡ false → neededOctets h filter private records ≤ 1048576
+pub layable : (h : Header) (filter private records output : List ℕ) → wrongFields h private ≡ false → neededOctets h filter private records ≤ 1048576
     → neededOctets h filter private records ≤ length output → {count : ℕ} → count ≡ tallyOf records .count → Layable h filter private records count output
 layable h filter private records output a size room {count} e =
     let n = file-length h filter private records count in
     let few = four-each records in
-    record { fields = writable h a; few = omega arith; size = omega arith; room = omega arith }
+    record { fields = writable h private a; stated = stated h private a; few = omega arith; size = omega arith; room = omega arith }

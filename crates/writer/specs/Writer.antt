@@ -1,6 +1,7 @@
 -- The writer over any header fields, filter, private octets, records one behind another and output (document 01, Reader, second
 -- paragraph; Refusals): the first of 2, 10, 11, 13, 8, 17 in this order, with the output unchanged, or the file over the
--- start of the output. Lengths and count it works out. No private octets means no private extension. Assumes nothing.
+-- start of the output. Lengths and count it works out. What the header states of a private extension must be as its octets are
+-- (document 02, ask 5). Assumes nothing.
 use mathlib.Core.Bool.{Bool, cond, not, _&&_, _||_}
 use mathlib.Core.List.{List, [], _∷_}
 use Prim.Native.Nat.{ℕ, zero, suc, _+_}
@@ -12,13 +13,15 @@ use Rattle.timestamp.specs.Timestamp.{narrow, right}
 use Rattle.record.specs.Release.{narrowRelease}
 use Rattle.record.specs.Walk.{tallyOf}
 use Rattle.cdrfile.specs.declared.Header.{Header}
+use Rattle.cdrfile.specs.Statement.{agrees}
 use Rattle.cdrfile.specs.File.{headerLength, fileOctets}
 use Rattle.cdrfile.specs.Order.{wrongOrder}
 use Rattle.writer.specs.declared.Written.{Written}
 
--- 2: a field beyond its width, or an extension that is not 0 below release 7
-abbrev pub beyondWidth : Header → Bool
-beyondWidth h = not (narrowRelease (h .high) && narrowRelease (h .low) && narrow (h .opened) && narrow (h .appended))
+-- 2: a field beyond its width, an extension that is not 0 below release 7, or a statement that the private octets contradict
+abbrev pub wrongFields : Header → List ℕ → Bool
+wrongFields h private =
+    not (narrowRelease (h .high) && narrowRelease (h .low) && narrow (h .opened) && narrow (h .appended) && agrees (h .statement) private)
 
 -- 10: a wrong timestamp, or filter or private octets above 65,534
 abbrev pub wrongValue : Header → List ℕ → List ℕ → Bool
@@ -32,7 +35,7 @@ neededOctets h filter private records = headerLength h filter private + length r
 unfoldable pub verdict : Header → List ℕ → List ℕ → List ℕ → List ℕ → ℕ
 verdict h filter private records output =
     first
-    ((2 when beyondWidth h)
+    ((2 when wrongFields h private)
     ∷ (10 when wrongValue h filter private)
     ∷ (11 when not (eqb (tallyOf records .refusal) 0))
     ∷ (13 when wrongOrder (h .high) (h .low) (tallyOf records))

@@ -1,7 +1,8 @@
 // The writer of CDR files: a file over the start of an output, or the first refusal of 2, 10, 11, 13, 8, 17 in this order.
 use cdrfile::Header;
 ghost use mathlib.Core.Path.{_≡_};
-ghost use Rattle.writer.specs.Writer.{beyondWidth, wrongValue, after, writeOf};
+ghost use Rattle.cdrfile.specs.Statement.{agrees};
+ghost use Rattle.writer.specs.Writer.{wrongFields, wrongValue, after, writeOf};
 ghost use Rattle.writer.specs.Cases.{answered};
 
 // The answer: refusal 0 with the file's octets, 17 with the octets that it needs, or another number with 0.
@@ -20,15 +21,27 @@ fn answer(refusal: u8, octets: usize) -> Written
     }
 }
 
-// Whether a field is beyond its width: refusal 2.
-fn beyond_width(h: Header) -> bool
-    ensures { λ b. ⌜ b ≡ beyondWidth h ⌝ }
+// Whether the private octets are as the statement says.
+fn agrees(statement: u8, private: &[u8]) -> bool
+    ensures { λ b. ⌜ b ≡ agrees statement (now (private .entry)) ⌝ }
+{
+    if private.len() == 0 {
+        statement < 2
+    } else {
+        statement == 2
+    }
+}
+
+// Whether a field is beyond its width, or the private octets contradict the header: refusal 2.
+fn wrong_fields(h: Header, private: &[u8]) -> bool
+    ensures { λ b. ⌜ b ≡ wrongFields h (now (private .entry)) ⌝ }
 {
     let high = record::is_narrow_release(h.high);
     let low = record::is_narrow_release(h.low);
     let opened = timestamp::is_narrow(h.opened);
     let appended = timestamp::is_narrow(h.appended);
-    !(high & low & opened & appended)
+    let stated = agrees(h.statement, private);
+    !(high & low & opened & appended & stated)
 }
 
 // Whether a timestamp is wrong, or the filter or the private octets are too long for their length field: refusal 10.
@@ -44,10 +57,12 @@ fn wrong_value(h: Header, filter: &[u8], private: &[u8]) -> bool
 pub fn write(h: Header, filter: &[u8], private: &[u8], records: &[u8], output: &mut [u8]) -> Written
     ensures { λ r. ⌜ after r (now (output .exit)) ≡ writeOf h (now (filter .entry)) (now (private .entry)) (now (records .entry)) (now (output .entry)) ⌝ }
 {
-    if beyond_width(h) {
+    let unfit = wrong_fields(h, private);
+    let wrong = wrong_value(h, filter, private);
+    if unfit {
         return answer(2, 0);
     }
-    if wrong_value(h, filter, private) {
+    if wrong {
         return answer(10, 0);
     }
     let found = record::tally(records);

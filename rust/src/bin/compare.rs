@@ -5,7 +5,7 @@
 use leveehum::cdrname::{self, Writing};
 use leveehum::counts::{self, LossCounts};
 use leveehum::dates::{self, Dated};
-use leveehum::fields::Header;
+use leveehum::fields::{Header, EMPTY, NONE, OCTETS};
 use leveehum::files::FAMILIES;
 use leveehum::inputs::{self, Input};
 use leveehum::name::{self, Fields, LONGEST_NAME};
@@ -44,6 +44,16 @@ const PRIVATE: [&str; 4] = [
     "neither",
 ];
 
+/// What a header may state of its private extension.
+const STATEMENTS: [&str; 3] = ["none", "empty", "with octets"];
+/// Statements that private octets contradict.
+const CONTRADICTIONS: [&str; 4] = [
+    "none of octets",
+    "empty of octets",
+    "octets of none",
+    "none of the three",
+];
+
 /// How often each answer came; 0 is an acceptance.
 type Tally = BTreeMap<u8, usize>;
 
@@ -62,6 +72,10 @@ struct Counts {
     /// Files with each day of each month, by the timestamp that has it.
     dates: [Tally; 2],
     writer: Tally,
+    /// Accepted files, by what they state of `STATEMENTS`.
+    stated: [usize; STATEMENTS.len()],
+    /// What the writers were given, by how it is one of `CONTRADICTIONS`.
+    contradicted: [usize; CONTRADICTIONS.len()],
     step: Tally,
     /// Parts of files, by places within the file and forged ones.
     parts: usize,
@@ -89,7 +103,9 @@ fn main() -> ExitCode {
         complete("writer", &counts.writer, &[0, 2, 10, 11, 13, 8, 17]),
         complete("step", &counts.step, &[0, 11]),
         counts.has_parts(),
-        counts.has_private(),
+        all_came("private octets", &PRIVATE, &counts.private),
+        all_came("private extensions", &STATEMENTS, &counts.stated),
+        all_came("contradicted", &CONTRADICTIONS, &counts.contradicted),
         complete("timestamp", &counts.stamp, &[0, 4, 2]),
         counts.has_day_ends(),
         complete("name reader", &counts.name, &[0, 20]),
@@ -152,16 +168,6 @@ impl Counts {
         *parts > 0 && *empty_parts > 0
     }
 
-    /// Prints how many private octets were compared; whether there were all kinds of them.
-    fn has_private(&self) -> bool {
-        let kinds = PRIVATE.iter().zip(self.private);
-        let told: Vec<String> = kinds
-            .map(|(kind, times)| format!("{kind} {times}"))
-            .collect();
-        println!("{:27} {}", "private octets", told.join(", "));
-        !self.private.contains(&0)
-    }
-
     /// Prints how many ends of days were compared at each offset; whether both of every day were.
     fn has_day_ends(&self) -> bool {
         let offsets = DAY_OFFSETS.iter().zip(self.day_ends);
@@ -171,6 +177,16 @@ impl Counts {
         println!("{:27} {}", "ends of days", told.join(", "));
         self.day_ends == [2 * DAYS; DAY_OFFSETS.len()]
     }
+}
+
+/// Prints how often each kind came; whether all did.
+fn all_came(name: &str, kinds: &[&str], times: &[usize]) -> bool {
+    let each = kinds.iter().zip(times);
+    let told: Vec<String> = each
+        .map(|(kind, times)| format!("{kind} {times}"))
+        .collect();
+    println!("{name:27} {}", told.join(", "));
+    !times.contains(&0)
 }
 
 /// Prints how often each answer came; whether each that should come did.
@@ -223,6 +239,7 @@ fn compare_file(random: &mut Random, file: &[u8], counts: &mut Counts) -> Result
         }
         Ok(contents) => {
             compare_contents(&contents, &read)?;
+            counts.stated[usize::from(contents.header.statement)] += 1;
             for part in [read.filter, read.private, read.records] {
                 compare_part(file, part, counts)?;
             }
@@ -244,11 +261,6 @@ fn compare_contents(contents: &Contents, read: &Read) -> Result<(), String> {
         read.records.range(),
     )?;
     same("read: count", contents.count, read.count)?;
-    // Without private octets there is no place to compare.
-    same("read: p", contents.private.len(), read.private.octets)?;
-    if contents.private.is_empty() {
-        return Ok(());
-    }
     same(
         "read: private",
         contents.private.clone(),
@@ -462,6 +474,17 @@ fn compare_writers(random: &mut Random, counts: &mut Counts) -> Result<(), Diffe
                 continue;
             }
             let given = inputs::input(random, combination);
+            let stated = (given.header.statement, given.private.is_empty());
+            let contradiction = match stated {
+                (NONE, false) => Some(0),
+                (EMPTY, false) => Some(1),
+                (OCTETS, true) => Some(2),
+                (NONE | EMPTY | OCTETS, _) => None,
+                _ => Some(3),
+            };
+            if let Some(kind) = contradiction {
+                counts.contradicted[kind] += 1;
+            }
             compare_writer(random, &given, &mut counts.writer)
                 .map_err(|what| writer_difference(what, &given))?;
         }

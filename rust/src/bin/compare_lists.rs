@@ -17,6 +17,7 @@ use leveehum::gate;
 use leveehum::program::{contents, lessons, proved_program, run_proved};
 use leveehum::random::Random;
 use leveehum::scripts::hexadecimal;
+use leveehum::second;
 use std::collections::BTreeMap;
 use std::env;
 use std::path::Path;
@@ -27,6 +28,8 @@ const SEED: u64 = 0x3229_7000_2026_0004;
 const PER_FAMILY: usize = 20;
 /// The refusals of the reader as the programs print them, each of which must come.
 const REFUSED: [&str; 6] = ["E 8", "E 9", "E 10", "E 11", "E 12", "E 13"];
+/// Right files that must come, by what their headers state of a private extension.
+const EXTENDED: [&str; 3] = ["no extension", "empty extension", "extension with octets"];
 /// Right files that must come, by their records, and files about the programs' limit.
 const RIGHT: [&str; 3] = ["no record", "one record", "several records"];
 const LONGEST: &str = "taken with 65,536 octets";
@@ -74,7 +77,7 @@ fn compare_files() -> Result<String, String> {
     let list = proved_program("cdrlist", "CDRLIST_BIN");
     let copy = proved_program("cdrcopy", "CDRCOPY_BIN");
     let files = some_files(&mut Random::new(SEED));
-    let kinds = [&RIGHT[..], &REFUSED[..], &[LONGEST, LONGER]].concat();
+    let kinds = [&RIGHT[..], &EXTENDED, &REFUSED, &[LONGEST, LONGER]].concat();
     let mut counts: BTreeMap<&str, usize> = kinds.into_iter().map(|kind| (kind, 0)).collect();
     for file in &files {
         let listed = cdrlist::list(file).into_bytes();
@@ -111,8 +114,8 @@ fn compare_files() -> Result<String, String> {
     }
 }
 
-/// What a file counts as, by what is printed for it: its refusal or its records, and its length
-/// where that is about the limit.
+/// What a file counts as, by what is printed for it: its refusal or its records and its private
+/// extension, and its length where that is about the limit.
 fn kinds_of(file: &[u8], listed: &[u8]) -> Vec<&'static str> {
     let refused = REFUSED
         .into_iter()
@@ -120,6 +123,9 @@ fn kinds_of(file: &[u8], listed: &[u8]) -> Vec<&'static str> {
     let records = listed.split(|&octet| octet == b'\n');
     let records = records.filter(|line| line.starts_with(b"R ")).count();
     let mut kinds = vec![refused.unwrap_or(RIGHT[records.min(2)])];
+    if let (None, Ok(contents)) = (refused, second::read(file)) {
+        kinds.push(EXTENDED[usize::from(contents.header.statement)]);
+    }
     match refused {
         None if file.len() == LONGEST_INPUT => kinds.push(LONGEST),
         Some("E 8") if file.len() == LONGEST_INPUT + 1 => kinds.push(LONGER),

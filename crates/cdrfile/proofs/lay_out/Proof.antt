@@ -14,11 +14,11 @@ use Rattle.cdrfile.proofs.lay_out.Tie as tie
 sizes : (s : tie.Start) →
     (headerLength (s .args .h) (s .args .filter .now) (s .args .private .now) + length (s .args .body .now) ≤ 1048576)
     × (headerLength (s .args .h) (s .args .filter .now) (s .args .private .now) + length (s .args .body .now) ≤ length (s .args .output .now))
-    × (length (s .args .private .now) ≤ length (privateOctets (s .args .private .now)))
+    × (length (s .args .private .now) ≤ length (privateOctets (s .args .h .statement) (s .args .private .now)))
 sizes s =
     let a = s .args in
     let n = file-length (a .h) (a .filter .now) (a .private .now) (a .body .now) (a .count) in
-    (omega (arith, s .pre .size), omega (arith, s .pre .room), private-least (a .private .now))
+    (omega (arith, s .pre .size), omega (arith, s .pre .room), private-least (a .h .statement) (a .private .now) (s .pre .stated))
 
 header-length-requires : tie.Need-header-length-requires
 header-length-requires c κs = let z = sizes (c .before .before .before .before) in omega (arith, z)

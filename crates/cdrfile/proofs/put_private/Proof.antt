@@ -14,7 +14,7 @@ use Rattle.cdrfile.proofs.put_private.Tie as tie
 returns : tie.Need-returns
 returns c =
     let a = c .before .before .before .args in
-    sym (ap (splice (a .output .now) (a .at)) (private-none (a .private .now) (c .if1 .taken)) ∙ splice-nil (a .output .now) (a .at))
+    sym (ap (splice (a .output .now) (a .at)) (private-none (a .statement) (a .private .now) (c .if1 .taken)) ∙ splice-nil (a .output .now) (a .at))
 
 be16-requires : tie.Need-be16-requires
 be16-requires c κs = search needs
@@ -25,7 +25,7 @@ slice-aggregate-copy c = search needs
 copy-requires : tie.Need-copy-requires
 copy-requires c κs =
     let s = c .before .before .before .before .before .before in
-    omega (arith, s .pre, ap length (c .before .be16 .ensures), private-some-length (s .args .private .now) (c .before .before .before .if1 .left))
+    omega (arith, s .pre, ap length (c .before .be16 .ensures), private-some-length (s .args .statement) (s .args .private .now) (c .before .before .before .if1 .left))
 
 add-copy : tie.Need-add-copy
 add-copy c = search needs
@@ -33,7 +33,7 @@ add-copy c = search needs
 copy-requires-2 : tie.Need-copy-requires-2
 copy-requires-2 c κs =
     let s = c .before .before .before .before .before .before .before .before .before .before in
-    omega (arith, s .pre, c .before .before .before .copy .kept .0, private-some-length (s .args .private .now) (c .before .before .before .before .before .before .before .if1 .left))
+    omega (arith, s .pre, c .before .before .before .copy .kept .0, private-some-length (s .args .statement) (s .args .private .now) (c .before .before .before .before .before .before .before .if1 .left))
 
 same-length : tie.Need-same-length
 same-length c = search needs
@@ -43,12 +43,12 @@ returns-2 c =
     let s = c .before .before .before .before .before .before .before .before .before .before .before .before .before in
     let a = s .args in
     let some = c .before .before .before .before .before .before .before .before .before .before .if1 .left in
-    let n = private-some-length (a .private .now) some in
+    let n = private-some-length (a .statement) (a .private .now) some in
     let two = be 2 (length (a .private .now)) in
     c .before .before .copy2 .ensures
     ∙ ap (λ (o : List ℕ). splice o (a .at + 2) (a .private .now)) (c .before .before .before .before .before .before .copy .ensures ∙ ap (splice (a .output .now) (a .at)) (c .before .before .before .before .before .before .before .before .be16 .ensures))
     ∙ splice-then (a .output .now) (a .at) two (omega (arith, s .pre)) (a .private .now) (a .at + 2) refl
-    ∙ ap (splice (a .output .now) (a .at)) (sym (private-some (a .private .now) some))
+    ∙ ap (splice (a .output .now) (a .at)) (sym (private-some (a .statement) (a .private .now) some))
 
 pub put-private-spec : {M : Type 1} → statement M
 put-private-spec =

@@ -25,6 +25,7 @@ returns c =
       reason = s .args .reason;
       address = c .address-of .ensures i;
       lost = s .pre .lost i;
+      statement = 2;
     }
 
 pub header-for-spec : {M : Type 1} → statement M

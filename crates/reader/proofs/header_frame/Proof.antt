@@ -77,7 +77,7 @@ returns-4 c =
     let h = c .before .before .before .before .before .before .before .before .num32 .ensures in
     let f = c .before .before .before .before .before .before .before .num16 .ensures in
     let p = plain (c .before .before .before) in
-    (λ i. record { refusal = 0; header = h i; filter = f i; private = record { start = 50 + f i; octets = 0 } })
+    (λ i. record { refusal = 0; header = h i; filter = f i; statement = 0; private = record { start = 50 + f i; octets = 0 } })
     ∙ sym (plain-taken _ (omega (arith, c .before .before .if1 .left)) (omega (arith, c .if3 .left, c .before .if2 .left)))
 
 pub header-frame-spec : {M : Type 1} → statement M

@@ -42,11 +42,11 @@ num32-requires-3 c κs = search needs
 address-of-requires : tie.Need-address-of-requires
 address-of-requires c κs = search needs
 
-shared-slice-read-t11 : tie.Need-shared-slice-read-t11
-shared-slice-read-t11 c = search needs
+shared-slice-read-t12 : tie.Need-shared-slice-read-t12
+shared-slice-read-t12 c = search needs
 
-shared-slice-read-t16 : tie.Need-shared-slice-read-t16
-shared-slice-read-t16 c = search needs
+shared-slice-read-t17 : tie.Need-shared-slice-read-t17
+shared-slice-read-t17 c = search needs
 
 returns : tie.Need-returns
 unfolding headerAt
@@ -62,6 +62,7 @@ returns c =
       reason = getD file 26 0;
       address = c .before .before .address-of .ensures i;
       lost = getD file 47 0;
+      statement = a .statement;
     }
 
 pub header-of-spec : {M : Type 1} → statement M
@@ -79,6 +80,6 @@ header-of-spec =
     unpack-requires-2
     num32-requires-3
     address-of-requires
-    shared-slice-read-t11
-    shared-slice-read-t16
+    shared-slice-read-t12
+    shared-slice-read-t17
     returns)

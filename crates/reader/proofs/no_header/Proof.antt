@@ -11,7 +11,7 @@ no-time-requires c κs = search needs
 returns : tie.Need-returns
 returns c =
     let t = c .no-time .ensures in
-    λ i. record { high = noRelease; low = noRelease; opened = t i; appended = t i; sequence = 0; reason = 0; address = replicate 20 0; lost = 0 }
+    λ i. record { high = noRelease; low = noRelease; opened = t i; appended = t i; sequence = 0; reason = 0; address = replicate 20 0; lost = 0; statement = 0 }
 
 pub no-header-spec : {M : Type 1} → statement M
 no-header-spec = tie.close (tie.spec no-time-requires returns)

@@ -2,9 +2,11 @@
 use mathlib.Core.Path.{_≡_, _∙_, sym, ap}
 use Prim.Native.Nat.{ℕ, _+_, _<_}
 use native.Mathlib.Omega.{arith}
+use mathlib.Core.Bool.{cond}
+use lib.Dec.{eqb}
 use Rattle.octets.specs.Number.{num}
 use Rattle.reader.specs.Places.{headerLengthAt, plainLength, privateLengthAt}
-use Rattle.reader.specs.Frame.{unsummed, empty, private-taken}
+use Rattle.reader.specs.Frame.{unsummed, private-taken}
 use borrow.Author.Needs.{needs}
 use Rattle.reader.proofs.private_frame.Statement.{statement}
 use Rattle.reader.proofs.private_frame.Tie as tie
@@ -38,42 +40,37 @@ num16-requires c κs = search needs
 cast-octets : tie.Need-cast-octets
 cast-octets c = search needs
 
+add-if2 : tie.Need-add-if2
+add-if2 c = search needs
+
+add-if2-2 : tie.Need-add-if2-2
+add-if2-2 c = search needs
+
 refused-frame-requires-2 : tie.Need-refused-frame-requires-2
 refused-frame-requires-2 c κs = search needs
 
 returns-2 : tie.Need-returns-2
 returns-2 c =
     let n = c .before .before in
-    c .refused-frame2 .ensures ∙ sym (empty (n .before .before .before .args .file .now) (more (n .before .before .before)) (sym (octets n) ∙ c .before .if2 .taken))
-
-add-if3 : tie.Need-add-if3
-add-if3 c = search needs
-
-add-if3-2 : tie.Need-add-if3-2
-add-if3-2 c = search needs
-
-refused-frame-requires-3 : tie.Need-refused-frame-requires-3
-refused-frame-requires-3 c κs = search needs
-
-returns-3 : tie.Need-returns-3
-returns-3 c =
-    let n = c .before .before .before in
     let s = n .before .before .before in
     let f = s .pre .0 in
     let p = octets n in
-    c .refused-frame3 .ensures ∙ sym (unsummed (s .args .file .now) (more s) (λ e. c .before .if3 .taken (omega (arith, f .is-header, f .is-plain))))
+    c .refused-frame2 .ensures ∙ sym (unsummed (s .args .file .now) (more s) (λ e. c .before .if2 .taken (omega (arith, f .is-header, f .is-plain))))
 
-add-t6 : tie.Need-add-t6
-add-t6 c = search needs
+statement-of-requires : tie.Need-statement-of-requires
+statement-of-requires c κs = search needs
 
-returns-4 : tie.Need-returns-4
-returns-4 c =
+add-t7 : tie.Need-add-t7
+add-t7 c = search needs
+
+returns-3 : tie.Need-returns-3
+returns-3 c =
     let n = c .before .before in
     let s = n .before .before .before in
     let f = s .pre .0 in
     let p = octets n in
-    (λ i. record { refusal = 0; header = f .is-header i; filter = f .is-filter i; private = record { start = 52 + f .is-filter i; octets = p i } })
-    ∙ sym (private-taken (s .args .file .now) (more s) (omega (arith, f .is-header, s .pre .1)) (λ e. c .before .if2 .left (p ∙ e)) (omega (arith, f .is-header, f .is-plain, c .if3 .left)))
+    (λ i. record { refusal = 0; header = f .is-header i; filter = f .is-filter i; statement = (c .statement-of .ensures ∙ ap (λ (k : ℕ). cond (eqb k 0) 1 2) p) i; private = record { start = 52 + f .is-filter i; octets = p i } })
+    ∙ sym (private-taken (s .args .file .now) (more s) (omega (arith, f .is-header, s .pre .1)) (omega (arith, f .is-header, f .is-plain, c .before .if2 .left)))
 
 pub private-frame-spec : {M : Type 1} → statement M
 private-frame-spec =
@@ -85,11 +82,10 @@ private-frame-spec =
     add-num16
     num16-requires
     cast-octets
+    add-if2
+    add-if2-2
     refused-frame-requires-2
     returns-2
-    add-if3
-    add-if3-2
-    refused-frame-requires-3
-    returns-3
-    add-t6
-    returns-4)
+    statement-of-requires
+    add-t7
+    returns-3)

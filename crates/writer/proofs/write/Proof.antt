@@ -10,17 +10,17 @@ use Rattle.record.specs.declared.Tallied.{Tallied}
 use Rattle.record.specs.Walk.{tallyOf}
 use Rattle.cdrfile.specs.Order.{wrongOrder}
 use Rattle.writer.specs.declared.Written.{Written}
-use Rattle.writer.specs.Writer.{after, beyondWidth, wrongValue, neededOctets}
-use Rattle.writer.specs.Cases.{answered, Passed, write-beyond, write-wrong, write-cut, write-disordered, write-long, write-needing, write-done, written-made, short, header-most, layable}
+use Rattle.writer.specs.Writer.{after, wrongFields, wrongValue, neededOctets}
+use Rattle.writer.specs.Cases.{answered, Passed, write-unfit, write-wrong, write-cut, write-disordered, write-long, write-needing, write-done, written-made, short, header-most, layable}
 use Rattle.writer.proofs.write.Statement.{statement}
 use Rattle.writer.proofs.write.Tie as tie
 
 -- The function's entry from the places behind 2, behind 10, and where the numbers of the file are known.
 abbrev from2 : tie.Else1 → tie.Start
-from2 c = c .before .before .before .before .before .before
+from2 c = c .before .before .before .before .before .before .before
 
 abbrev from10 : tie.Else2 → tie.Start
-from10 c = from2 (c .before .before)
+from10 c = from2 (c .before)
 
 abbrev behind10 : tie.After-header-length → tie.Else2
 behind10 c = c .before .before .before
@@ -28,11 +28,11 @@ behind10 c = c .before .before .before
 abbrev from : tie.After-header-length → tie.Start
 from c = from10 (behind10 c)
 
-passed2 : (c : tie.Else1) → beyondWidth (from2 c .args .h) ≡ false
-passed2 c = sym (c .before .beyond-width .ensures) ∙ c .if1 .left
+passed2 : (c : tie.Else1) → wrongFields (from2 c .args .h) (from2 c .args .private .now) ≡ false
+passed2 c = sym (c .before .before .wrong-fields .ensures) ∙ c .if1 .left
 
 passed10 : (c : tie.Else2) → wrongValue (from10 c .args .h) (from10 c .args .filter .now) (from10 c .args .private .now) ≡ false
-passed10 c = sym (c .before .wrong-value .ensures) ∙ c .if2 .left
+passed10 c = sym (c .before .before .wrong-value .ensures) ∙ c .if2 .left
 
 -- what the walk, the test of the order and the sum of the lengths give is what the definition asks
 refusal : (c : tie.After-header-length) → tallyOf (from c .args .records .now) .refusal ≡ c .before .before .tally .result .refusal
@@ -57,27 +57,27 @@ passed : (c : tie.Else4)
 passed c =
     let b = numbers c in
     record {
-      narrow = passed2 (behind10 b .before .before);
+      fields = passed2 (behind10 b .before);
       right = passed10 (behind10 b);
       whole = refusal b ∙ c .before .if3 .left;
       ordered = order b ∙ c .if4 .left;
     }
 
-beyond-width-requires : tie.Need-beyond-width-requires
-beyond-width-requires c κs = search needs
+wrong-fields-requires : tie.Need-wrong-fields-requires
+wrong-fields-requires c κs = search needs
+
+wrong-value-requires : tie.Need-wrong-value-requires
+wrong-value-requires c κs = search needs
 
 answer-requires : tie.Need-answer-requires
 answer-requires c κs = search needs
 
 returns : tie.Need-returns
 returns c =
-    let b = c .before .before in
+    let b = c .before .before .before in
     let a = b .before .before .before .before .before .args in
     ap (λ (r : Written). after r (a .output .now)) (c .answer .ensures)
-    ∙ write-beyond (a .h) (a .filter .now) (a .private .now) (a .records .now) (a .output .now) (sym (b .beyond-width .ensures) ∙ c .before .if1 .taken)
-
-wrong-value-requires : tie.Need-wrong-value-requires
-wrong-value-requires c κs = search needs
+    ∙ write-unfit (a .h) (a .filter .now) (a .private .now) (a .records .now) (a .output .now) (sym (b .wrong-fields .ensures) ∙ c .before .if1 .taken)
 
 answer-requires-2 : tie.Need-answer-requires-2
 answer-requires-2 c κs = search needs
@@ -85,10 +85,10 @@ answer-requires-2 c κs = search needs
 returns-2 : tie.Need-returns-2
 returns-2 c =
     let b = c .before .before in
-    let a = from2 (b .before) .args in
+    let a = from2 b .args in
     ap (λ (r : Written). after r (a .output .now)) (c .answer2 .ensures)
-    ∙ write-wrong (a .h) (a .filter .now) (a .private .now) (a .records .now) (a .output .now) (passed2 (b .before))
-    (sym (b .wrong-value .ensures) ∙ c .before .if2 .taken)
+    ∙ write-wrong (a .h) (a .filter .now) (a .private .now) (a .records .now) (a .output .now) (passed2 b)
+    (sym (b .before .wrong-value .ensures) ∙ c .before .if2 .taken)
 
 tally-requires : tie.Need-tally-requires
 tally-requires c κs = search needs
@@ -117,7 +117,7 @@ returns-3 c =
     let e = behind10 b in
     let a = from b .args in
     ap (λ (r : Written). after r (a .output .now)) (c .answer3 .ensures)
-    ∙ write-cut (a .h) (a .filter .now) (a .private .now) (a .records .now) (a .output .now) (passed2 (e .before .before)) (passed10 e)
+    ∙ write-cut (a .h) (a .filter .now) (a .private .now) (a .records .now) (a .output .now) (passed2 (e .before)) (passed10 e)
     (λ z. c .before .if3 .taken (sym (refusal b) ∙ z))
 
 answer-requires-4 : tie.Need-answer-requires-4
@@ -129,7 +129,7 @@ returns-4 c =
     let e = behind10 b in
     let a = from b .args in
     ap (λ (r : Written). after r (a .output .now)) (c .answer4 .ensures)
-    ∙ write-disordered (a .h) (a .filter .now) (a .private .now) (a .records .now) (a .output .now) (passed2 (e .before .before)) (passed10 e)
+    ∙ write-disordered (a .h) (a .filter .now) (a .private .now) (a .records .now) (a .output .now) (passed2 (e .before)) (passed10 e)
     (refusal b ∙ c .before .before .if3 .left) (order b ∙ c .before .if4 .taken)
 
 answer-requires-5 : tie.Need-answer-requires-5
@@ -161,7 +161,7 @@ lay-out-requires c κs =
     let e = c .before .before .before in
     let a = from (numbers e) .args in
     let n = needed (numbers e) in
-    layable (a .h) (a .filter .now) (a .private .now) (a .records .now) (a .output .now) (passed e .narrow)
+    layable (a .h) (a .filter .now) (a .private .now) (a .records .now) (a .output .now) (passed e .fields)
     (omega (arith, c .before .before .if5 .left)) (omega (arith, c .before .if6 .left)) (count (numbers e))
 
 answer-requires-7 : tie.Need-answer-requires-7
@@ -184,10 +184,10 @@ pub write-spec : {M : Type 1} → statement M
 write-spec =
     tie.close
     (tie.spec
-    beyond-width-requires
+    wrong-fields-requires
+    wrong-value-requires
     answer-requires
     returns
-    wrong-value-requires
     answer-requires-2
     returns-2
     tally-requires
