@@ -1,20 +1,15 @@
 -- A file read and written again: what the reader hands back goes to the writer, and a refusal of the reader leaves the output
 -- unchanged. Both are public calls of document 01 (Reader); this only joins them. Assumes nothing.
 use mathlib.Core.Path.{_≡_, refl, sym, ap}
-use mathlib.Core.Bool.{not}
-use mathlib.Core.List.{List, [], _∷_}
+use mathlib.Core.List.{List}
 use Prim.Native.Nat.{ℕ, zero, suc, _≤_}
 use native.Mathlib.Omega.{arith}
-use lib.Dec.{eqb, ltb}
 use lib.ListN.{length}
-use borrow.Author.Tests.{ltb-false}
-use Rattle.refusals.specs.Refusal.{Rule, _when_, passed}
-use Rattle.record.specs.Walk.{tallyOf}
 use Rattle.cdrfile.specs.declared.Header.{Header}
-use Rattle.cdrfile.specs.Order.{wrongOrder}
 use Rattle.reader.specs.declared.Contents.{Contents}
 use Rattle.reader.specs.Reader.{readOf, partOf}
-use Rattle.writer.specs.Writer.{After, after, wrongFields, wrongValue, neededOctets, verdict, written, settled, writeOf}
+use Rattle.writer.specs.Writer.{After, after, neededOctets, verdict, written, settled, writeOf}
+use Rattle.writer.specs.Cases.{accepted}
 
 -- the writer, over what the reader hands back of a file
 abbrev pub handedOn : Contents → List ℕ → List ℕ → After
@@ -29,27 +24,10 @@ rewriteOf file output = rewritten (readOf file .refusal) (readOf file) file outp
 
 -- a file that was written fits the output
 module _ (h : Header) (filter private records output : List ℕ) where
-  room : verdict h filter private records output ≡ 0 → neededOctets h filter private records ≤ length output
-  unfolding verdict
-  room e =
-      let n = neededOctets h filter private records in
-      let r17 : List Rule = (17 when ltb (length output) n) ∷ [] in
-      let r8 : List Rule = (8 when ltb 1048576 n) ∷ r17 in
-      let r13 : List Rule = (13 when wrongOrder (h .high) (h .low) (tallyOf records)) ∷ r8 in
-      let r11 : List Rule = (11 when not (eqb (tallyOf records .refusal) 0)) ∷ r13 in
-      let r10 : List Rule = (10 when wrongValue h filter private) ∷ r11 in
-      let p2 = passed 1 (wrongFields h private) r10 e in
-      let p10 = passed 9 (wrongValue h filter private) r11 (p2 .1) in
-      let p11 = passed 10 (not (eqb (tallyOf records .refusal) 0)) r13 (p10 .1) in
-      let p13 = passed 12 (wrongOrder (h .high) (h .low) (tallyOf records)) r8 (p11 .1) in
-      let p8 = passed 7 (ltb 1048576 n) r17 (p13 .1) in
-      let p17 = passed 16 (ltb (length output) n) [] (p8 .1) in
-      ltb-false (length output) n (p17 .0)
-
   by-verdict : (n : ℕ) → verdict h filter private records output ≡ n
       → settled n (neededOctets h filter private records) output (written h filter private records output) .answer .refusal ≡ 0
       → settled n (neededOctets h filter private records) output (written h filter private records output) .answer .octets ≤ length output
-  by-verdict zero v e = room v
+  by-verdict zero v e = accepted h filter private records output v .room
   by-verdict (suc n) v e = let z : ⊥ = omega arith in absurd z
 
   write-fits : writeOf h filter private records output .answer .refusal ≡ 0 → writeOf h filter private records output .answer .octets ≤ length output

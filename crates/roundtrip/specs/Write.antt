@@ -1,17 +1,15 @@
 -- What the writer accepts is a right file, and a right file that fits is written (document 01, Reader, second paragraph).
 -- Assumes nothing.
 use mathlib.Core.Path.{_≡_, refl, sym, ap, _∙_}
-use mathlib.Core.Bool.{true, not, _&&_, _||_}
-use mathlib.Core.List.{List, [], _∷_}
+use mathlib.Core.Bool.{true, not, _&&_}
+use mathlib.Core.List.{List}
 use Prim.Native.Nat.{ℕ, zero, suc, _≤_}
 use native.Mathlib.Omega.{arith}
-use lib.Dec.{eqb, ltb}
 use lib.ListN.{length}
-use borrow.Author.Tests.{eqb-true, ltb-false, le-ltb, not-false}
+use borrow.Author.Tests.{le-ltb}
 use Rattle.octets.specs.Number.{Octets}
 use Rattle.octets.specs.Splice.{splice}
-use Rattle.refusals.specs.Refusal.{_when_, passed, or-false, both-false}
-use Rattle.refusals.specs.Tests.{both}
+use Rattle.refusals.specs.Refusal.{both-false}
 use Rattle.timestamp.specs.Timestamp.{narrow, right, narrow-bounds, bounds-narrow, right-bounds, bounds-right, right-narrow}
 use Rattle.record.specs.declared.Tallied.{Tallied}
 use Rattle.record.specs.Release.{narrowRelease}
@@ -26,8 +24,8 @@ use Rattle.cdrfile.specs.Order.{wrongOrder}
 use Rattle.roundtrip.specs.Described.{RightFile}
 use Rattle.cdrfile.specs.Laws.{file-length}
 use Rattle.roundtrip.specs.Ordered.{ordered, not-wrong}
-use Rattle.writer.specs.Writer.{After, wrongFields, wrongValue, neededOctets, verdict, settled, written, writeOf}
-use Rattle.writer.specs.Cases.{Passed, write-done, short, stated}
+use Rattle.writer.specs.Writer.{After, neededOctets, verdict, settled, written, writeOf}
+use Rattle.writer.specs.Cases.{Passed, write-done, stated, widths, times, short, accepted}
 use Rattle.roundtrip.specs.Held.{Held}
 
 -- a right file's are so held
@@ -72,60 +70,23 @@ module _ (h : Header) (filter private body output : List ℕ) where
   by-walk broken e z = let n : _≡_ {A = ℕ} 11 0 = sym (ap (λ (t : Tallied). t .refusal) (tally-is broken e)) ∙ z in absurd (omega arith)
 
   pub taken : verdict h filter private body output ≡ 0 → (rs : List Record) × Taken rs
-  unfolding verdict
   taken e =
-      let n = neededOctets h filter private body in
-      let r17 = (17 when ltb (length output) n) ∷ [] in
-      let r8 = (8 when ltb 1048576 n) ∷ r17 in
-      let r13 = (13 when wrongOrder (h .high) (h .low) (tallyOf body)) ∷ r8 in
-      let r11 = (11 when not (eqb (tallyOf body .refusal) 0)) ∷ r13 in
-      let r10 = (10 when wrongValue h filter private) ∷ r11 in
-      let p2 = passed 1 (wrongFields h private) r10 e in
-      let p10 = passed 9 (wrongValue h filter private) r11 (p2 .1) in
-      let p11 = passed 10 (not (eqb (tallyOf body .refusal) 0)) r13 (p10 .1) in
-      let p13 = passed 12 (wrongOrder (h .high) (h .low) (tallyOf body)) r8 (p11 .1) in
-      let p8 = passed 7 (ltb 1048576 n) r17 (p13 .1) in
-      let p17 = passed 16 (ltb (length output) n) [] (p8 .1) in
-      let whole = eqb-true (tallyOf body .refusal) 0 (not-false (eqb (tallyOf body .refusal) 0) (p11 .0)) in
-      let w = by-walk (walkOf body) refl whole in (
-        w .0,
-        record {
-          passed = record { fields = p2 .0; right = p10 .0; whole = whole; ordered = p13 .0 };
-          walk = w .1;
-          size = ltb-false 1048576 n (p8 .0);
-          room = ltb-false (length output) n (p17 .0);
-        },
-      )
+      let a = accepted h filter private body output e in
+      let w = by-walk (walkOf body) refl (a .passed .whole) in
+      (w .0, record { passed = a .passed; walk = w .1; size = a .size; room = a .room })
 
   -- then what was given is a right file, and it stands over the start of the output
   module _ (held : Held h) (of : Octets filter) (op : Octets private) (ob : Octets body) (rs : List Record) (t : Taken rs) where
     pub body-is : recordsOctets rs ≡ body
     body-is = walked body rs ob (t .walk) .1
 
-    -- what 2 and 10 leave open
-    widths : (narrowRelease (h .high) ≡ true) × (narrowRelease (h .low) ≡ true) × (narrow (h .opened) ≡ true) × (narrow (h .appended) ≡ true)
-    widths =
-        let all = not-false (narrowRelease (h .high) && narrowRelease (h .low) && narrow (h .opened) && narrow (h .appended) && agrees (h .statement) private) (t .passed .fields) in
-        let d = both (narrowRelease (h .high) && narrowRelease (h .low) && narrow (h .opened) && narrow (h .appended)) (agrees (h .statement) private) all in
-        let a = both (narrowRelease (h .high) && narrowRelease (h .low) && narrow (h .opened)) (narrow (h .appended)) (d .0) in
-        let b = both (narrowRelease (h .high) && narrowRelease (h .low)) (narrow (h .opened)) (a .0) in
-        let c = both (narrowRelease (h .high)) (narrowRelease (h .low)) (b .0) in
-        (c .0, c .1, b .1, a .1)
-
-    times : (right (h .opened) ≡ true) × (right (h .appended) ≡ true)
-    times =
-        let a = or-false (not (right (h .opened)) || not (right (h .appended)) || ltb 65534 (length filter)) (ltb 65534 (length private)) (t .passed .right) in
-        let b = or-false (not (right (h .opened)) || not (right (h .appended))) (ltb 65534 (length filter)) (a .0) in
-        let c = or-false (not (right (h .opened))) (not (right (h .appended))) (b .0) in
-        (not-false (right (h .opened)) (c .0), not-false (right (h .appended)) (c .1))
-
     pub layout-given : layout (given h filter private rs) ≡ fileOctets h filter private body (tallyOf body .count)
     layout-given = λ i. fileOctets h filter private (body-is i) (sym (ap (λ (s : Tallied). s .count) (tally-is (records rs) (t .walk))) i)
 
     pub given-right : RightFile (given h filter private rs)
     given-right =
-        let w = widths in
-        let v = times in
+        let w = widths h private (t .passed .fields) in
+        let v = times h filter private (t .passed .right) in
         let s = short h filter private (t .passed .right) in
         record {
           high = narrowed (h .high) (held .high) (w .0);

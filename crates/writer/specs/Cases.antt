@@ -7,10 +7,10 @@ use Prim.Native.Nat.{ℕ, _+_, _≤_, _<_}
 use native.Mathlib.Omega.{arith}
 use lib.Dec.{eqb, ltb}
 use lib.ListN.{length}
-use borrow.Author.Tests.{lt-ltb, le-ltb, ltb-false, eq-eqb, ne-eqb, not-false}
+use borrow.Author.Tests.{lt-ltb, le-ltb, ltb-false, eq-eqb, ne-eqb, eqb-true, not-false}
 use Rattle.octets.specs.Number.{be}
 use Rattle.octets.specs.Splice.{splice}
-use Rattle.refusals.specs.Refusal.{or-false}
+use Rattle.refusals.specs.Refusal.{Rule, _when_, passed, or-false}
 use Rattle.refusals.specs.Tests.{both}
 use Rattle.timestamp.specs.Timestamp.{narrow, right, narrow-bounds}
 use Rattle.record.specs.declared.Release.{Release}
@@ -90,28 +90,74 @@ module _ (h : Header) (private : List ℕ) (e : wrongFields h private ≡ false)
   pub stated : agrees (h .statement) private ≡ true
   stated = tests .1
 
-  pub writable : Writable h
-  writable =
+  pub widths : (narrowRelease (h .high) ≡ true) × (narrowRelease (h .low) ≡ true) × (narrow (h .opened) ≡ true) × (narrow (h .appended) ≡ true)
+  widths =
       let t = both (narrowRelease (h .high) && narrowRelease (h .low) && narrow (h .opened)) (narrow (h .appended)) (tests .0) in
       let u = both (narrowRelease (h .high) && narrowRelease (h .low)) (narrow (h .opened)) (t .0) in
       let v = both (narrowRelease (h .high)) (narrowRelease (h .low)) (u .0) in
-      let high = in-width (h .high) (v .0) in
-      let low = in-width (h .low) (v .1) in
+      (v .0, v .1, u .1, t .1)
+
+  pub writable : Writable h
+  writable =
+      let w = widths in
+      let high = in-width (h .high) (w .0) in
+      let low = in-width (h .low) (w .1) in
       record {
         high = high .release;
         high-version = high .version;
         low = low .release;
         low-version = low .version;
-        opened = narrow-bounds (h .opened) (u .1);
-        appended = narrow-bounds (h .appended) (t .1);
+        opened = narrow-bounds (h .opened) (w .2);
+        appended = narrow-bounds (h .appended) (w .3);
       }
 
--- filter and private octets fit their length fields
-pub short : (h : Header) (filter private : List ℕ) → wrongValue h filter private ≡ false → (length filter ≤ 65534) × (length private ≤ 65534)
-short h filter private e =
-    let t = or-false (not (right (h .opened)) || not (right (h .appended)) || ltb 65534 (length filter)) (ltb 65534 (length private)) e in
-    let u = or-false (not (right (h .opened)) || not (right (h .appended))) (ltb 65534 (length filter)) (t .0) in
-    (ltb-false 65534 (length filter) (u .1), ltb-false 65534 (length private) (t .1))
+-- the timestamps are right, and filter and private octets fit their length fields
+module _ (h : Header) (filter private : List ℕ) (e : wrongValue h filter private ≡ false) where
+  values : ((not (right (h .opened)) || not (right (h .appended))) ≡ false) × (ltb 65534 (length filter) ≡ false) × (ltb 65534 (length private) ≡ false)
+  values =
+      let t = or-false (not (right (h .opened)) || not (right (h .appended)) || ltb 65534 (length filter)) (ltb 65534 (length private)) e in
+      let u = or-false (not (right (h .opened)) || not (right (h .appended))) (ltb 65534 (length filter)) (t .0) in
+      (u .0, u .1, t .1)
+
+  pub times : (right (h .opened) ≡ true) × (right (h .appended) ≡ true)
+  times =
+      let t = or-false (not (right (h .opened))) (not (right (h .appended))) (values .0) in
+      (not-false (right (h .opened)) (t .0), not-false (right (h .appended)) (t .1))
+
+  pub short : (length filter ≤ 65534) × (length private ≤ 65534)
+  short = (ltb-false 65534 (length filter) (values .1), ltb-false 65534 (length private) (values .2))
+
+-- a verdict of 0: none of the six applies
+pub record Accepted (h : Header) (filter private records output : List ℕ) : Type 0 where
+  pub passed : Passed h filter private records
+  pub size : neededOctets h filter private records ≤ 1048576
+  pub room : neededOctets h filter private records ≤ length output
+
+pub accepted : (h : Header) (filter private records output : List ℕ) → verdict h filter private records output ≡ 0 → Accepted h filter private records output
+unfolding verdict
+accepted h filter private records output e =
+    let n = neededOctets h filter private records in
+    let r17 : List Rule = (17 when ltb (length output) n) ∷ [] in
+    let r8 : List Rule = (8 when ltb 1048576 n) ∷ r17 in
+    let r13 : List Rule = (13 when wrongOrder (h .high) (h .low) (tallyOf records)) ∷ r8 in
+    let r11 : List Rule = (11 when not (eqb (tallyOf records .refusal) 0)) ∷ r13 in
+    let p2 = passed 1 (wrongFields h private) ((10 when wrongValue h filter private) ∷ r11) e in
+    let p10 = passed 9 (wrongValue h filter private) r11 (p2 .1) in
+    let p11 = passed 10 (not (eqb (tallyOf records .refusal) 0)) r13 (p10 .1) in
+    let p13 = passed 12 (wrongOrder (h .high) (h .low) (tallyOf records)) r8 (p11 .1) in
+    let p8 = passed 7 (ltb 1048576 n) r17 (p13 .1) in
+    let p17 = passed 16 (ltb (length output) n) [] (p8 .1) in
+    record {
+      passed =
+          record {
+            fields = p2 .0;
+            right = p10 .0;
+            whole = eqb-true (tallyOf records .refusal) 0 (not-false (eqb (tallyOf records .refusal) 0) (p11 .0));
+            ordered = p13 .0;
+          };
+      size = ltb-false 1048576 n (p8 .0);
+      room = ltb-false (length output) n (p17 .0);
+    }
 
 -- so the header is short, and the sum of its length and that of any slice fits a machine word
 private-most : (statement : ℕ) (p : List ℕ) → length (privateOctets statement p) ≤ 2 + length p
