@@ -33,6 +33,8 @@ pub struct Counts {
     pub refusals: Tally,
     pub outcomes: Tally,
     pub reasons: Tally,
+    /// The reasons of the files that TICK closed.
+    pub tick_reasons: Tally,
     pub records: usize,
     /// Closed files that told each of `TOLD`.
     pub told: [usize; TOLD.len()],
@@ -208,6 +210,9 @@ fn settle<'a>(
         octets += file.len();
         let reason = settle_file(&file, &mut placed, accounts, counts)?;
         is_reason_of(event, reason)?;
+        if answer.outcome == 6 {
+            *counts.tick_reasons.entry(reason.into()).or_default() += 1;
+        }
     }
     if let Some(record) = placed {
         accounts[answer.route].book(record);
@@ -261,7 +266,7 @@ fn file(line: Option<&[u8]>) -> Result<Vec<u8>, String> {
 fn is_reason_of(event: &Line, reason: u8) -> Result<(), String> {
     let is_right = match event {
         Line::Close { reason: given, .. } => u32::from(reason) == *given,
-        Line::Tick { .. } => reason == 2,
+        Line::Tick { .. } => matches!(reason, 0 | 2),
         Line::Receive { .. } => matches!(reason, 1 | 3 | 5),
         _ => false,
     };

@@ -1,13 +1,14 @@
 //! Refusal 18: whether a state is within its bounds. Written from document 01's sentence on it,
-//! condition by condition, with the header of document 02, and from nothing of the proved code. Routes
-//! beyond the configured number and a closed route's file are not judged, and no counter is.
+//! condition by condition, with the header and the set times of document 02, and from nothing of the
+//! proved code. Routes beyond the configured number, a closed route's file and set minutes beyond
+//! their number are not judged, and no counter is.
 
 #![forbid(unsafe_code)]
 
 use crate::fields::Release;
-use crate::manager::MOST_ROUTES;
+use crate::manager::{DAY, MOST_ROUTES, MOST_SETS};
 use crate::second::{EXTENDED, LAST_MINUTE, LONGEST_FILE, WIDEST_OFFSET};
-use crate::states::{OpenFile, Route, RouteSettings, State};
+use crate::states::{OpenFile, Route, RouteSettings, Sets, State};
 
 /// A condition in words, and its test.
 type Condition<T> = (&'static str, fn(&T) -> bool);
@@ -39,6 +40,16 @@ const OF_SETTINGS: [Condition<RouteSettings>; 8] = [
     ("configured version in range", |s| s.release.version <= 31),
     ("configured extension only at release 7", |s| {
         has_extension_only_at_7(s.release)
+    }),
+];
+
+const OF_SETS: [Condition<Sets>; 3] = [
+    ("24 set minutes or fewer", |s| s.count as usize <= MOST_SETS),
+    ("set minutes of a day", |s| {
+        s.counted().iter().all(|&minute| minute < DAY)
+    }),
+    ("set minutes rising", |s| {
+        s.counted().windows(2).all(|pair| pair[0] < pair[1])
     }),
 ];
 
@@ -117,8 +128,10 @@ fn has_distinct_filters(state: &State) -> bool {
 pub fn conditions() -> Vec<&'static str> {
     let of_state = OF_STATE.iter().map(|(name, _)| *name);
     let of_settings = OF_SETTINGS.iter().map(|(name, _)| *name);
+    let of_sets = OF_SETS.iter().map(|(name, _)| *name);
     let of_file = OF_FILE.iter().map(|(name, _)| *name);
-    of_state.chain(of_settings).chain(of_file).collect()
+    let of_routes = of_settings.chain(of_sets).chain(of_file);
+    of_state.chain(of_routes).collect()
 }
 
 /// The conditions that a state breaks, each as often as it does; none if it is within its bounds.
@@ -127,6 +140,7 @@ pub fn broken(state: &State) -> Vec<&'static str> {
     add_broken(&mut names, &OF_STATE, state);
     for route in state.configured() {
         add_broken(&mut names, &OF_SETTINGS, &route.settings);
+        add_broken(&mut names, &OF_SETS, &route.sets);
         if route.open {
             let held = Held {
                 last: state.last,

@@ -6,10 +6,11 @@
 use self::Side::{Past, Within};
 use crate::fields::Release;
 use crate::forge::{empty, fill, right, NEW};
-use crate::manager::{LONGEST_FILTER, MOST_ROUTES};
+use crate::manager::{DAY, LONGEST_FILTER, MOST_ROUTES, MOST_SETS};
 use crate::random::Random;
 use crate::second::{LAST_MINUTE, LONGEST_FILE};
 use crate::states::{Minute, Route, State};
+use std::array;
 
 /// Octets by which a size limit is raised where the header may have grown: by a filter of any
 /// length that an octet can say, and by two extensions.
@@ -157,7 +158,7 @@ fn emptied<'a>(random: &mut Random, state: &'a mut State, at: usize) -> &'a mut 
 }
 
 /// For each condition of refusal 18 a way to break it.
-pub const FAULTS: [Fault; 30] = [
+pub const FAULTS: [Fault; 33] = [
     Fault {
         name: "one route or more",
         of: Of::State,
@@ -278,6 +279,40 @@ pub const FAULTS: [Fault; 30] = [
             let configured = &mut filled(random, state, at).settings.release;
             configured.release = side.pick(7, random.below(7) as u8);
             configured.extension = random.octet() | 1;
+        },
+    },
+    Fault {
+        name: "24 set minutes or fewer",
+        of: Of::Settings,
+        put: |random, state, at, side| {
+            let sets = &mut state.routes[at].sets;
+            sets.minutes = array::from_fn(|minute| minute as u32);
+            sets.count = side.above(random, MOST_SETS as u32);
+        },
+    },
+    Fault {
+        name: "set minutes of a day",
+        of: Of::Settings,
+        put: |random, state, at, side| {
+            let sets = &mut state.routes[at].sets;
+            let count = random.between(1, MOST_SETS);
+            sets.count = count as u32;
+            sets.minutes = array::from_fn(|minute| minute as u32);
+            sets.minutes[count - 1] = side.above(random, DAY - 1);
+        },
+    },
+    Fault {
+        name: "set minutes rising",
+        of: Of::Settings,
+        put: |random, state, at, side| {
+            let sets = &mut state.routes[at].sets;
+            let count = random.between(2, MOST_SETS);
+            sets.count = count as u32;
+            sets.minutes = array::from_fn(|minute| 10 + 2 * minute as u32);
+            // One that is as the one before it, or below it, and still above the one before that.
+            let at = random.between(1, count - 1);
+            let before = sets.minutes[at - 1];
+            sets.minutes[at] = side.pick(before + 1, before - random.below(2) as u32);
         },
     },
     Fault {

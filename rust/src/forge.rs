@@ -6,11 +6,12 @@
 
 use crate::draft::release;
 use crate::fields::Release;
-use crate::manager::{LONGEST_FILTER, MOST_ROUTES};
+use crate::manager::{DAY, LONGEST_FILTER, MOST_ROUTES, MOST_SETS};
 use crate::random::Random;
 use crate::second::{LAST_MINUTE, WIDEST_OFFSET};
-use crate::states::{Minute, OpenFile, Route, RouteSettings, State};
+use crate::states::{Minute, OpenFile, Route, RouteSettings, Sets, State};
 use crate::words::{Words, WORDS};
+use std::array;
 
 /// An octet that no filter of `right` has.
 pub(crate) const NEW: u8 = 0xEE;
@@ -37,6 +38,9 @@ pub fn right(random: &mut Random, count: usize) -> State {
     if random.once_in(16) {
         make_due(random, &mut state);
     }
+    if random.once_in(16) {
+        fill_sets(random, &mut state);
+    }
     // A route beyond the configured ones may be like one of them.
     if count < MOST_ROUTES && random.once_in(3) {
         state.routes[count] = state.routes[random.below(count)];
@@ -52,6 +56,16 @@ fn make_due(random: &mut Random, state: &mut State) {
         if !route.open {
             empty(random, route, state.last);
         }
+    }
+}
+
+/// Gives all configured routes as many set minutes as they may have.
+fn fill_sets(random: &mut Random, state: &mut State) {
+    let count = state.count as usize;
+    for route in &mut state.routes[..count] {
+        let first = random.below(DAY as usize - MOST_SETS) as u32;
+        route.sets.count = MOST_SETS as u32;
+        route.sets.minutes = array::from_fn(|more| first + more as u32);
     }
 }
 
@@ -76,8 +90,8 @@ pub fn changed(random: &mut Random) -> State {
     let other = any_state(random);
     let route = any_route(random);
     let place = &mut state.routes[random.below(count)];
-    let (settings, file) = (&mut place.settings, &mut place.file);
-    match random.below(24) {
+    let (settings, file, sets) = (&mut place.settings, &mut place.file, &mut place.sets);
+    match random.below(27) {
         0 => state.count = any_count(random),
         1 => state.bias = other.bias,
         2 => state.last = other.last,
@@ -100,6 +114,9 @@ pub fn changed(random: &mut Random) -> State {
         19 => file.count = random.pick(&[0, 1, file.count.wrapping_add(1), route.file.count]),
         20 => file.octets = random.pick(&[0, 4, file.octets.wrapping_add(1), route.file.octets]),
         21 => std::mem::swap(&mut file.high, &mut file.low),
+        22 => sets.count = random.pick(&[sets.count + 1, 25, 256, route.sets.count]),
+        23 => sets.minutes[random.below(4)] = random.pick(&[DAY, route.sets.minutes[0]]),
+        24 => sets.minutes.swap(0, 1),
         _ => state = with_other_bit(random, &state),
     }
     state
@@ -168,12 +185,39 @@ fn any_route(random: &mut Random) -> Route {
             flag: random.octet(),
             release: any_release(random),
         },
+        sets: any_sets(random),
         next: number(random),
         losses: counter(random),
         unrouted: counter(random),
         open: random.once_in(2),
         file: any_file(random),
     }
+}
+
+fn any_sets(random: &mut Random) -> Sets {
+    Sets {
+        count: number(random),
+        minutes: [0; MOST_SETS].map(|_| number(random)),
+    }
+}
+
+/// Set minutes that are right, often none; those that do not count are any.
+fn right_sets(random: &mut Random) -> Sets {
+    let mut sets = any_sets(random);
+    let few = random.below(MOST_SETS + 1);
+    let count = random.pick(&[0, 0, 0, 1, 2, few, MOST_SETS]);
+    let mut minutes = Vec::new();
+    while minutes.len() < count {
+        let any = random.below(DAY as usize) as u32;
+        let minute = random.pick(&[0, 1, DAY - 1, any, any, any]);
+        if !minutes.contains(&minute) {
+            minutes.push(minute);
+        }
+    }
+    minutes.sort_unstable();
+    sets.count = count as u32;
+    sets.minutes[..count].copy_from_slice(&minutes);
+    sets
 }
 
 /// The fields of a state beside its routes.
@@ -220,6 +264,7 @@ fn right_route(random: &mut Random, last: u32, filter: &[u8]) -> Route {
             release: release(random, 2),
             ..RouteSettings::default()
         },
+        sets: right_sets(random),
         ..any_route(random)
     };
     route.settings.octets = filter.len() as u8;

@@ -17,6 +17,11 @@ pub const LEAST_LIMIT: usize = 128;
 /// Octets of the settings of a node and of a route, their kinds included.
 pub const NODE_OCTETS: usize = 1 + NODE_BODY;
 pub const ROUTE_OCTETS: usize = 1 + ROUTE_BODY;
+/// Octets of a set time of day, and the most of them that a route may have.
+pub const SET_OCTETS: usize = 1 + SET_BODY;
+pub const MOST_SETS: usize = 24;
+/// The minutes of a day.
+pub const DAY: u32 = 1_440;
 /// The route in the answer to an event that has none.
 pub const NO_ROUTE: u8 = 255;
 
@@ -24,8 +29,11 @@ const NODE_KIND: u8 = 1;
 const NODE_BODY: usize = 18;
 const ROUTE_KIND: u8 = 2;
 const ROUTE_BODY: usize = 40;
+const SET_KIND: u8 = 3;
+const SET_BODY: usize = 3;
 
 /// The closure reasons that the manager itself has.
+const AT_SET_TIME: u8 = 0;
 const TOO_LONG: u8 = 1;
 const TOO_OLD: u8 = 2;
 const FULL: u8 = 3;
@@ -117,6 +125,8 @@ struct Route {
     one_release: bool,
     /// The release and version of a file without records.
     release: Rank,
+    /// The minutes of the local day at which a file is cut.
+    minutes: Vec<u16>,
     /// Where its region of the store begins.
     region: usize,
     next: u32,
@@ -203,9 +213,9 @@ impl Record<'_> {
 }
 
 impl Manager {
-    /// The fresh manager of these settings, or refusal 1, 2 or 3.
+    /// The fresh manager of these settings, or refusal 1, 2, 3 or 22.
     pub fn load(settings: &[u8]) -> Result<Self, u8> {
-        let (node, routes) = blocks(settings).ok_or(1)?;
+        let Blocks { node, routes, sets } = blocks(settings).ok_or(1)?;
         let node = Node::new(node).ok_or(2)?;
         let mut regions = 0;
         let mut route = |body| {
@@ -214,12 +224,13 @@ impl Manager {
             Some(route)
         };
         let routes: Option<Vec<_>> = routes.into_iter().map(&mut route).collect();
-        let routes = routes.ok_or(2)?;
+        let mut routes = routes.ok_or(2)?;
         let mut filters: Vec<&[u8]> = routes.iter().map(Route::filter).collect();
         filters.sort_unstable();
         if filters.windows(2).any(|pair| pair[0] == pair[1]) {
             return Err(3);
         }
+        set_times(&mut routes, &sets).ok_or(22)?;
         Ok(Self {
             node,
             routes,
@@ -263,19 +274,23 @@ impl Manager {
         Ok(accepted(Outcome::Closed, index, Some(octets)))
     }
 
-    /// Closes the files that have reached their open-time limit.
+    /// Closes the files that have reached their open-time limit, and those in whose time a set
+    /// minute of the local day fell.
     pub fn tick(&mut self, store: &[u8], output: &mut [u8], time: u32) -> Answer {
         let now = self.effective(store, time)?;
-        let due = |route: &&mut Route| route.is_due(now);
-        let needed = self.routes.iter_mut().filter(due);
-        let needed = needed.filter_map(|route| route.file_octets()).sum();
+        let offset = self.node.offset;
+        let ending = self.routes.iter();
+        let ending = ending.filter(|route| route.end(offset, now).is_some());
+        let needed = ending.filter_map(|route| route.file_octets()).sum();
         if needed > output.len() {
             return Err((17, needed));
         }
         let (mut files, mut octets) = (0, 0);
-        for route in self.routes.iter_mut().filter(due) {
-            octets += route.close(&self.node, TOO_OLD, store, &mut output[octets..])?;
-            files += 1;
+        for route in &mut self.routes {
+            if let Some(reason) = route.end(offset, now) {
+                octets += route.close(&self.node, reason, store, &mut output[octets..])?;
+                files += 1;
+            }
         }
         self.last = now;
         Ok(Accepted {
@@ -469,6 +484,7 @@ impl Route {
             most: word(29),
             one_release: flag == 1,
             release,
+            minutes: Vec::new(),
             region,
             next: word(36),
             losses: 0,
@@ -481,6 +497,9 @@ impl Route {
         let unused = self.filter.get(self.filter_octets..);
         unused.is_some_and(|unused| unused.iter().all(|&octet| octet == 0))
             && (LEAST_LIMIT..=LONGEST_FILE).contains(&self.limit)
+            && self.minutes.len() <= MOST_SETS
+            && self.minutes.iter().all(|&minute| u32::from(minute) < DAY)
+            && self.minutes.windows(2).all(|pair| pair[0] < pair[1])
             && self
                 .file
                 .as_ref()
@@ -520,10 +539,15 @@ impl Route {
         Some(self.octets_of(file.high, file.low, file.octets))
     }
 
-    /// Whether the open file's age has reached its limit.
-    fn is_due(&self, now: u32) -> bool {
-        let reached = |file: &OpenFile| self.age > 0 && now - file.opened >= self.age;
-        self.file.as_ref().is_some_and(reached)
+    /// The reason with which the open file closes as time goes by, if it does: its age has reached the
+    /// limit, or a set minute fell after its opening.
+    fn end(&self, offset: i64, now: u32) -> Option<u8> {
+        let file = self.file.as_ref()?;
+        if self.age > 0 && now - file.opened >= self.age {
+            return Some(TOO_OLD);
+        }
+        let fell = |&minute: &u16| next_at(minute, offset, file.opened) <= i64::from(now);
+        self.minutes.iter().any(fell).then_some(AT_SET_TIME)
     }
 
     /// Whether a record has a length that may be, and a file has room for it alone.
@@ -702,24 +726,63 @@ pub fn indicator(losses: u32, unrouted: u32) -> u8 {
     }
 }
 
-/// The bodies of the settings of a node and of 1 to 8 routes behind it.
-fn blocks(settings: &[u8]) -> Option<(&[u8; NODE_BODY], Vec<&[u8; ROUTE_BODY]>)> {
-    let (node, mut rest) = block(settings, NODE_KIND)?;
-    let mut routes = Vec::with_capacity(MOST_ROUTES);
-    while !rest.is_empty() {
-        let (route, behind) = block(rest, ROUTE_KIND)?;
-        routes.push(route);
-        rest = behind;
+/// The first time after another at which this is the minute of the local day: it comes once a day.
+fn next_at(minute: u16, offset: i64, time: u32) -> i64 {
+    let time = i64::from(time);
+    let wait = (i64::from(minute) - time - offset).rem_euclid(DAY.into());
+    match wait {
+        0 => time + i64::from(DAY),
+        _ => time + wait,
     }
-    (1..=MOST_ROUTES)
-        .contains(&routes.len())
-        .then_some((node, routes))
+}
+
+/// The bodies of settings.
+struct Blocks<'a> {
+    node: &'a [u8; NODE_BODY],
+    routes: Vec<&'a [u8; ROUTE_BODY]>,
+    sets: Vec<&'a [u8; SET_BODY]>,
+}
+
+/// A node, 1 to 8 routes behind it, and any number of set times behind these.
+fn blocks(settings: &[u8]) -> Option<Blocks<'_>> {
+    let (node, rest) = block(settings, NODE_KIND)?;
+    let (routes, rest) = all_blocks(rest, ROUTE_KIND);
+    let (sets, rest) = all_blocks(rest, SET_KIND);
+    let is_whole = rest.is_empty() && (1..=MOST_ROUTES).contains(&routes.len());
+    is_whole.then_some(Blocks { node, routes, sets })
+}
+
+/// The bodies of all settings of this kind that stand one behind another, and what is behind them.
+fn all_blocks<const N: usize>(mut settings: &[u8], kind: u8) -> (Vec<&[u8; N]>, &[u8]) {
+    let mut bodies = Vec::new();
+    while let Some((body, behind)) = block(settings, kind) {
+        bodies.push(body);
+        settings = behind;
+    }
+    (bodies, settings)
 }
 
 /// The body of a setting of this kind, and what is behind it.
 fn block<const N: usize>(settings: &[u8], kind: u8) -> Option<(&[u8; N], &[u8])> {
     let (&first, rest) = settings.split_first()?;
     (first == kind).then(|| rest.split_first_chunk()).flatten()
+}
+
+/// Gives the routes their set times, if each is right: of a day, of a configured route, in the order
+/// of routes and then of minutes, none twice, and no 25th of a route.
+fn set_times(routes: &mut [Route], sets: &[&[u8; SET_BODY]]) -> Option<()> {
+    let mut before = None;
+    for &&[route, upper, lower] in sets {
+        let minute = u16::from_be_bytes([upper, lower]);
+        let minutes = &mut routes.get_mut(usize::from(route))?.minutes;
+        let this = Some((route, minute));
+        if u32::from(minute) >= DAY || before >= this || minutes.len() == MOST_SETS {
+            return None;
+        }
+        minutes.push(minute);
+        before = this;
+    }
+    Some(())
 }
 
 #[cfg(test)]
@@ -746,6 +809,7 @@ mod tests {
             flag: 0,
             release: release(4, 0),
             first: 7,
+            minutes: Vec::new(),
         }
     }
 
@@ -1372,6 +1436,88 @@ mod tests {
             let mut manager = right.clone();
             wrong(&mut manager);
             assert!(!manager.is_within_bounds(), "bound {index}");
+        }
+    }
+
+    /// A route that is cut at these minutes.
+    fn cut(minutes: &[u16]) -> settings::Route {
+        settings::Route {
+            minutes: minutes.to_vec(),
+            ..plain()
+        }
+    }
+
+    #[test]
+    fn a_set_minute_falls_once_a_day() {
+        // By looking at every minute of three days.
+        let falls = |minute: u16, offset: i64, opened: u32, now: u32| {
+            let local = |time: u32| (i64::from(time) + offset).rem_euclid(DAY.into());
+            (opened + 1..=now).any(|time| local(time) == i64::from(minute))
+        };
+        for offset in [-1_439, -60, -1, 0, 1, 60, 1_439] {
+            for minute in [0, 1, 59, 720, 1_439] {
+                for opened in [0, 1, 59, 60, 61, 719, 720, 721, 1_379, 1_380, 1_439, 1_440] {
+                    for after in [0, 1, 2, 59, 60, 720, 1_438, 1_439, 1_440, 1_441, 2_880] {
+                        let now = opened + after;
+                        let next = next_at(minute, offset, opened);
+                        let expected = falls(minute, offset, opened, now);
+                        assert_eq!(next <= i64::from(now), expected);
+                    }
+                }
+            }
+        }
+    }
+
+    #[test]
+    fn set_minutes_cut_files() {
+        let mut desk = Desk::new(&[cut(&[600])]);
+        // Opened on the minute it waits a day.
+        desk.open(600, 0);
+        assert_eq!(desk.tick(600), [6, 255, 0, 0]);
+        assert_eq!(desk.tick(2_039), [6, 255, 0, 0]);
+        assert_eq!(desk.tick(2_040), [6, 255, 1, 61]);
+        assert_eq!(desk.output[26], AT_SET_TIME);
+        // A minute before it does not.
+        desk.open(3_479, 0);
+        assert_eq!(desk.tick(3_479), [6, 255, 0, 0]);
+        assert_eq!(desk.tick(3_480), [6, 255, 1, 61]);
+        // With the limit reached too the reason is 2.
+        let both = settings::Route {
+            age: 10,
+            ..cut(&[10])
+        };
+        let mut desk = Desk::new(&[both]);
+        desk.open(0, 0);
+        assert_eq!(desk.tick(10), [6, 255, 1, 61]);
+        assert_eq!(desk.output[26], TOO_OLD);
+    }
+
+    #[test]
+    fn wrong_set_times_are_22() {
+        let right = lay(&[
+            cut(&[]),
+            settings::Route {
+                filter: vec![1],
+                ..plain()
+            },
+        ]);
+        let with = |sets: &[(u8, u16)]| {
+            let sets = sets.iter().flat_map(|&(r, m)| settings::set_time(r, m));
+            let octets: Vec<u8> = right.iter().copied().chain(sets).collect();
+            Manager::load(&octets).map(drop)
+        };
+        let many: Vec<_> = (0..25).map(|minute| (0, minute)).collect();
+        assert_eq!(with(&[(0, 0), (0, 1_439), (1, 0), (1, 1_439)]), Ok(()));
+        assert_eq!(with(&many[..24]), Ok(()));
+        assert_eq!(with(&many), Err(22));
+        for wrong in [
+            &[(0, 1_440)][..],
+            &[(2, 0)],
+            &[(0, 5), (0, 5)],
+            &[(0, 6), (0, 5)],
+            &[(1, 5), (0, 6)],
+        ] {
+            assert_eq!(with(wrong), Err(22), "{wrong:?}");
         }
     }
 }

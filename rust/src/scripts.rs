@@ -7,10 +7,12 @@ use crate::counts;
 use crate::draft::release;
 use crate::fields::Release;
 use crate::gate::{Gate, LONGEST_LINE, MOST_OCTETS};
-use crate::manager::{RouteState, LONGEST_FILTER, MOST_ROUTES, NODE_OCTETS, ROUTE_OCTETS};
+use crate::manager::{
+    RouteState, DAY, LONGEST_FILTER, MOST_ROUTES, MOST_SETS, NODE_OCTETS, ROUTE_OCTETS, SET_OCTETS,
+};
 use crate::random::Random;
 use crate::second::{FIXED, LAST_MINUTE, LONGEST_FILE, WIDEST_OFFSET};
-use crate::settings::{self, Node, Route};
+use crate::settings::{self, set_time, Node, Route};
 use std::fmt::{Arguments, Write};
 
 /// A script in the making.
@@ -21,6 +23,8 @@ struct Maker<'a> {
     /// Where the script stands; what it prints is of no matter here.
     gate: Gate,
     routes: Vec<Route>,
+    /// The UTC offset plus 1,439.
+    bias: u16,
     clock: u32,
     /// The releases and the format that most records have.
     releases: [Release; 3],
@@ -80,6 +84,7 @@ impl<'a> Maker<'a> {
             lines: 0,
             gate: Gate::default(),
             routes: Vec::new(),
+            bias: 0,
             clock: 0,
             releases,
             format,
@@ -106,6 +111,7 @@ impl<'a> Maker<'a> {
         }
         self.routes = routes(self.random);
         let settings = lay(self.random, &self.routes);
+        self.bias = u16::from_be_bytes([settings[17], settings[18]]);
         let word = self.word(&settings);
         self.add(format_args!("S {word}"));
         self.is_narrow = false;
@@ -210,11 +216,23 @@ impl<'a> Maker<'a> {
             1..=3 => return self.clock.saturating_sub(self.random.below(100) as u32),
             4 => return self.random.pick(&[0, self.clock / 2]),
             5 => self.random.between(100, 20_000),
+            11 => self.wait_for_set_minute(),
             6..=10 => self.random.between(3, 100),
             _ => self.random.below(3),
         };
         self.clock = LAST_MINUTE.min(self.clock + step as u32);
         self.clock
+    }
+
+    /// The minutes to a set minute of a route, or to about it.
+    fn wait_for_set_minute(&mut self) -> usize {
+        let minutes: Vec<u16> = self.routes.iter().flat_map(|r| r.minutes.clone()).collect();
+        if minutes.is_empty() {
+            return 0;
+        }
+        let minute = i64::from(self.random.pick(&minutes)) + WIDEST_OFFSET - i64::from(self.bias);
+        let wait = (minute - i64::from(self.clock)).rem_euclid(DAY.into()) as usize;
+        (wait + self.random.below(3)).saturating_sub(1)
     }
 
     /// A route's number, at times of none.
@@ -438,9 +456,26 @@ fn routes(random: &mut Random) -> Vec<Route> {
                 1 => random.word() as u32,
                 _ => random.below(10) as u32,
             },
+            minutes: minutes(random),
         });
     }
     routes
+}
+
+/// Set minutes of a day, mostly none or few.
+fn minutes(random: &mut Random) -> Vec<u16> {
+    let few = random.below(MOST_SETS + 1);
+    let count = random.pick(&[0, 0, 0, 0, 1, 1, 2, few, MOST_SETS]);
+    let mut minutes: Vec<u16> = Vec::new();
+    while minutes.len() < count {
+        let any = random.below(DAY as usize) as u16;
+        let minute = random.pick(&[0, 1, 30, 1_439, any, any, any]);
+        if !minutes.contains(&minute) {
+            minutes.push(minute);
+        }
+    }
+    minutes.sort_unstable();
+    minutes
 }
 
 /// Often small, at times such that the longest bodies are at the limit.
@@ -483,10 +518,10 @@ fn lay(random: &mut Random, routes: &[Route]) -> Vec<u8> {
     settings::lay(Node { address, bias }, routes)
 }
 
-/// Settings with one to three faults, so that the order of their refusals shows.
+/// Settings with one to four faults, so that the order of their refusals shows.
 fn damaged(random: &mut Random) -> Vec<u8> {
     let mut routes = routes(random);
-    let faults = random.between(1, 7);
+    let faults = random.between(1, 15);
     if faults & 4 != 0 {
         // Two equal filters.
         let twice = routes[random.below(routes.len())].clone();
@@ -498,6 +533,9 @@ fn damaged(random: &mut Random) -> Vec<u8> {
         }
     }
     let mut octets = lay(random, &routes);
+    if faults & 8 != 0 {
+        put_wrong_set(random, &mut octets, &routes);
+    }
     if faults & 2 != 0 {
         put_wrong_value(random, &mut octets, routes.len());
     }
@@ -505,6 +543,37 @@ fn damaged(random: &mut Random) -> Vec<u8> {
         break_order(random, octets, routes.len())
     } else {
         octets
+    }
+}
+
+/// Puts a wrong set time behind the others, or spoils one: a minute that no day has, a route that is not
+/// configured, the one before it again, a lower route, or a 25th.
+fn put_wrong_set(random: &mut Random, octets: &mut Vec<u8>, routes: &[Route]) {
+    let count = routes.len();
+    let first = NODE_OCTETS + ROUTE_OCTETS * count;
+    let last = (count - 1) as u8;
+    let sets = (octets.len() - first) / SET_OCTETS;
+    match random.below(6) {
+        0 => octets.extend(set_time(last, random.pick(&[1_440, 1_441, 65_535]))),
+        1 => octets.extend(set_time(count as u8, 0)),
+        2 if sets > 0 => {
+            let again = octets.len() - SET_OCTETS..;
+            octets.extend_from_within(again);
+        }
+        3 if sets > 1 => {
+            let at = first + SET_OCTETS * random.below(sets - 1);
+            octets[at..at + 2 * SET_OCTETS].rotate_left(SET_OCTETS);
+        }
+        4 if sets > 0 => {
+            let at = first + SET_OCTETS * random.below(sets);
+            octets[at + 2..at + 4].copy_from_slice(&1_440_u16.to_be_bytes());
+        }
+        _ => {
+            octets.truncate(first);
+            let few = random.below(1_440 - 25) as u16;
+            let more = (0..25).flat_map(|more| set_time(last, few + more));
+            octets.extend(more);
+        }
     }
 }
 

@@ -3,7 +3,7 @@
 #![forbid(unsafe_code)]
 
 use crate::fields::Release;
-use crate::manager::LONGEST_FILTER;
+use crate::manager::{LONGEST_FILTER, SET_OCTETS};
 
 /// A node's settings.
 #[derive(Clone, Copy, Debug, PartialEq, Eq)]
@@ -27,6 +27,8 @@ pub struct Route {
     pub release: Release,
     /// The first sequence number.
     pub first: u32,
+    /// Its set minutes of the local day.
+    pub minutes: Vec<u16>,
 }
 
 /// The octets of settings of this node and these routes.
@@ -50,5 +52,16 @@ pub fn lay(node: Node, routes: &[Route]) -> Vec<u8> {
         octets.extend_from_slice(&[route.flag, release << 5 | version, extension]);
         octets.extend_from_slice(&route.first.to_be_bytes());
     }
+    for (number, route) in routes.iter().enumerate() {
+        for minute in &route.minutes {
+            octets.extend_from_slice(&set_time(number as u8, *minute));
+        }
+    }
     octets
+}
+
+/// The octets of a set time of day.
+pub fn set_time(route: u8, minute: u16) -> [u8; SET_OCTETS] {
+    let [upper, lower] = minute.to_be_bytes();
+    [3, route, upper, lower]
 }

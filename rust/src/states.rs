@@ -6,7 +6,7 @@
 
 use crate::counts;
 use crate::fields::Release;
-use crate::manager::{self, LONGEST_FILTER, MOST_ROUTES};
+use crate::manager::{self, LONGEST_FILTER, MOST_ROUTES, MOST_SETS};
 use crate::second::{EXTENDED, FIXED};
 use crate::settings;
 
@@ -57,9 +57,24 @@ pub struct OpenFile {
     pub octets: u32,
 }
 
+/// A route's set minutes; `count` of the minutes count.
+#[derive(Clone, Copy, Debug, Default, PartialEq, Eq)]
+pub struct Sets {
+    pub count: u32,
+    pub minutes: [u32; MOST_SETS],
+}
+
+impl Sets {
+    /// Those that count, as far as there are such.
+    pub fn counted(&self) -> &[u32] {
+        &self.minutes[..(self.count as usize).min(MOST_SETS)]
+    }
+}
+
 #[derive(Clone, Copy, Debug, Default, PartialEq, Eq)]
 pub struct Route {
     pub settings: RouteSettings,
+    pub sets: Sets,
     /// The sequence number of the file that it opens next.
     pub next: u32,
     /// Known losses and unrouted records since its last file closed.
@@ -145,6 +160,7 @@ impl State {
                 flag: route.settings.flag,
                 release: route.settings.release,
                 first: route.next,
+                minutes: route.sets.counted().iter().map(|&m| m as u16).collect(),
             }
         };
         let routes: Vec<_> = self.configured().iter().map(route).collect();

@@ -7,9 +7,9 @@ use crate::bounds;
 use crate::draft::release;
 use crate::fields::Release;
 use crate::forge::NEW;
-use crate::manager::{Arrival, Manager, LONGEST_FILTER};
+use crate::manager::{Arrival, Manager, DAY, LONGEST_FILTER};
 use crate::random::Random;
-use crate::second::{self, LAST_MINUTE, RESERVED};
+use crate::second::{self, LAST_MINUTE, RESERVED, WIDEST_OFFSET};
 use crate::states::{Answer, Route, RouteSettings, State};
 
 /// Stores beyond this are slow to make, so that most are made too short.
@@ -236,10 +236,21 @@ fn some_route<'a>(random: &mut Random, state: &'a State) -> &'a Route {
     }
 }
 
-/// A time: right ones about the last time and about the minute at which a file is due.
+/// A time: right ones about the last time, about the minute at which a file is due, and about the next
+/// at which a set minute falls.
 fn time(random: &mut Random, state: &State) -> u32 {
     let route = some_route(random, state);
-    let due = route.file.opened.get().wrapping_add(route.settings.age);
+    let opened = route.file.opened.get();
+    let due = opened.wrapping_add(route.settings.age);
+    let set = match route.sets.counted() {
+        [] => due,
+        minutes => {
+            let wait = i64::from(random.pick(minutes)) + WIDEST_OFFSET;
+            let wait = wait - i64::from(opened) - i64::from(state.bias);
+            opened.wrapping_add(wait.rem_euclid(DAY.into()) as u32)
+        }
+    };
+    let due = random.pick(&[due, set]);
     let any = random.between(0, LAST_MINUTE as usize) as u32;
     let [late, later] = [LAST_MINUTE + 1, random.word() as u32];
     let time = match random.below(16) {

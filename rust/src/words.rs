@@ -1,19 +1,21 @@
-//! A state as the 160 words in which it is lent to the proved manager: the node's eight, then nineteen
-//! for each of eight routes, configured or not. No bit is without a meaning, so that any words are
-//! a state's and any state has its words.
+//! A state as the 360 words in which it is lent to the proved manager: the node's eight, then nineteen
+//! for each of eight routes, configured or not, then how many set minutes each has, and then room for
+//! 24 of each. No bit is without a meaning, so that any words are a state's and any state has its words.
 
 #![forbid(unsafe_code)]
 
 use crate::fields::Release;
-use crate::manager::MOST_ROUTES;
-use crate::states::{Minute, OpenFile, Route, RouteSettings, State};
+use crate::manager::{MOST_ROUTES, MOST_SETS};
+use crate::states::{Minute, OpenFile, Route, RouteSettings, Sets, State};
 use std::array;
 
-/// Words of the node, and of a route.
+/// Words of the node and of a route; where the numbers of set minutes stand, and where the minutes do.
 const NODE: usize = 8;
 const ROUTE: usize = 19;
+const COUNTS: usize = NODE + MOST_ROUTES * ROUTE;
+const MINUTES: usize = COUNTS + MOST_ROUTES;
 /// Words of a state.
-pub const WORDS: usize = NODE + MOST_ROUTES * ROUTE;
+pub const WORDS: usize = MINUTES + MOST_ROUTES * MOST_SETS;
 
 pub type Words = [u32; WORDS];
 
@@ -25,7 +27,13 @@ impl State {
             count: words[5],
             last: words[6],
             unrouted: words[7],
-            routes: array::from_fn(|at| Route::from_words(&words[NODE + at * ROUTE..][..ROUTE])),
+            routes: array::from_fn(|at| Route {
+                sets: Sets {
+                    count: words[COUNTS + at],
+                    minutes: array::from_fn(|minute| words[MINUTES + at * MOST_SETS + minute]),
+                },
+                ..Route::from_words(&words[NODE + at * ROUTE..][..ROUTE])
+            }),
         }
     }
 
@@ -36,11 +44,19 @@ impl State {
 
     pub fn words(&self) -> Words {
         let mut words = [0; WORDS];
-        let (node, routes) = words.split_at_mut(NODE);
+        let (node, behind) = words.split_at_mut(NODE);
+        let (routes, sets) = behind.split_at_mut(COUNTS - NODE);
+        let (counts, minutes) = sets.split_at_mut(MOST_ROUTES);
         let [a, b, c, d] = packed(&self.address);
         node.copy_from_slice(&[a, b, c, d, self.bias, self.count, self.last, self.unrouted]);
         for (place, route) in routes.chunks_exact_mut(ROUTE).zip(&self.routes) {
             place.copy_from_slice(&route.words());
+        }
+        for (place, route) in counts.iter_mut().zip(&self.routes) {
+            *place = route.sets.count;
+        }
+        for (place, route) in minutes.chunks_exact_mut(MOST_SETS).zip(&self.routes) {
+            place.copy_from_slice(&route.sets.minutes);
         }
         words
     }
@@ -53,6 +69,7 @@ impl Route {
         let (format, high) = apart(words[15]);
         let (flag, low) = apart(words[16]);
         Self {
+            sets: Sets::default(),
             settings: RouteSettings {
                 filter: octets(&words[..5]),
                 octets: filter_octets,
@@ -251,7 +268,14 @@ mod tests {
     }
 
     #[test]
-    fn a_state_has_160_words() {
-        assert_eq!(WORDS, 160);
+    fn each_set_minute_has_its_place() {
+        assert_eq!(with(|_, r| r.sets.count = u32::MAX), [(162, u32::MAX)]);
+        assert_eq!(with(|_, r| r.sets.minutes[0] = 9), [(216, 9)]);
+        assert_eq!(with(|_, r| r.sets.minutes[23] = 9), [(239, 9)]);
+    }
+
+    #[test]
+    fn a_state_has_360_words() {
+        assert_eq!(WORDS, 360);
     }
 }

@@ -6,7 +6,7 @@ fn main() {
     let mut input = io::large_buffer();
     let mut line = gatescript::line();
     let mut octets = gatescript::half_mebibyte();
-    let mut words = [0u32; 160];
+    let mut words = [0u32; 360];
     let mut store = gatescript::half_mebibyte();
     let mut output = gatescript::half_mebibyte();
     let mut page = io::large_buffer();

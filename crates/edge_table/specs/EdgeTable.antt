@@ -27,8 +27,9 @@ use Rattle.writer.specs.Writer.{After, after, writeOf}
 use Rattle.writer.specs.Writer.{verdict as writerVerdict}
 use Rattle.state.specs.Loss.{indicator}
 use Rattle.state.specs.Routing.{fits, routeOf}
+use Rattle.state.specs.SetTimes.{setsRight}
 use Rattle.state.specs.Bounds.{sameFilter, settingsRight, fileRight, stateRight}
-use Rattle.settings.specs.Settings.{wrongShape, beyondRange, equalFilters, freshOf}
+use Rattle.settings.specs.Settings.{routesIn, wrongShape, beyondRange, equalFilters, wrongSets, setTimesFrom, freshOf}
 use Rattle.settings.specs.Settings.{verdict as settingsVerdict}
 use Rattle.filing.specs.Closing.{closedFile}
 use Rattle.events.specs.declared.Arrival.{Arrival}
@@ -188,7 +189,7 @@ EdgeTable =
     × (filed fileEvents ≡ [] ∷ [] ∷ countedOctets ∷ [])
 
 pub edge-table : EdgeTable
-unfolding wordsOf managerIn routeIn openOn closeOn receiveOn stampOf timestampOf wordOf dateFrom monthDays fileOctets fixedOctets recordsOctets recordOctets highest lowest freshOf settingsVerdict wrongShape beyondRange equalFilters settingsRight sameFilter stateRight fileRight fits routeOf openOf closeOf receiveOf closedFile splice answerOf entryOf
+unfolding wordsOf managerIn routeIn openOn closeOn receiveOn stampOf timestampOf wordOf dateFrom monthDays fileOctets fixedOctets recordsOctets recordOctets highest lowest freshOf settingsVerdict routesIn wrongShape beyondRange equalFilters wrongSets setTimesFrom settingsRight sameFilter stateRight setsRight fileRight fits routeOf openOf closeOf receiveOf closedFile splice answerOf entryOf
 edge-table = (
   refl,
   refl,

@@ -3,9 +3,10 @@
 -- there; here it would not. Assumes nothing.
 use mathlib.Core.Path.{_≡_, refl}
 use mathlib.Core.Bool.{true}
-use mathlib.Core.List.{List, [], _∷_}
+use mathlib.Core.List.{List, [], _∷_, _++_}
 use Prim.Native.Nat.{ℕ}
-use lib.ListN.{replicate, take}
+use lib.ListN.{replicate, take, drop}
+use Rattle.refusals.specs.Below.{listFrom}
 use Rattle.state.specs.declared.Route.{Route}
 use Rattle.state.specs.Manager.{Manager}
 use Rattle.settings.specs.Settings.{unusedRoute}
@@ -51,6 +52,7 @@ state =
       bias = 1379;
       last = 102;
       unrouted = 12;
+      setTimes = 24 ∷ 1 ∷ (replicate 6 0 ++ (listFrom (λ (n : ℕ). n) 201 24 ++ (300 ∷ replicate 167 0)));
     }
 
 -- the node's words, and the route's behind them
@@ -71,6 +73,11 @@ words =
 pub places : take 27 (wordsOf state) ≡ words
 unfolding wordsOf
 places = refl
+
+-- the set minutes behind the routes: of route 0 twenty-four, of route 1 one
+pub set-places : take 34 (drop 160 (wordsOf state)) ≡ 24 ∷ 1 ∷ (replicate 6 0 ++ (listFrom (λ (n : ℕ). n) 201 24 ++ (300 ∷ 0 ∷ [])))
+unfolding wordsOf
+set-places = refl
 
 -- and read back
 pub read-back : managerIn (wordsOf state) ≡ state

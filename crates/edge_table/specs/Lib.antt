@@ -4,3 +4,4 @@ pub mod Shared
 pub mod Layout
 pub mod LossCounts
 pub mod Extensions
+pub mod SetTimes

@@ -15,8 +15,9 @@ use Rattle.record.specs.Record.{recordOctets, recordsOctets, highest, lowest}
 use Rattle.cdrfile.specs.File.{fixedOctets, fileOctets}
 use Rattle.counts.specs.Counts.{countOctets, noCounts, countsIn}
 use Rattle.state.specs.Routing.{fits, routeOf}
+use Rattle.state.specs.SetTimes.{setsRight}
 use Rattle.state.specs.Bounds.{sameFilter, settingsRight, fileRight, stateRight}
-use Rattle.settings.specs.Settings.{wrongShape, beyondRange, equalFilters, freshOf}
+use Rattle.settings.specs.Settings.{routesIn, wrongShape, beyondRange, equalFilters, wrongSets, setTimesFrom, freshOf}
 use Rattle.settings.specs.Settings.{verdict as settingsVerdict}
 use Rattle.filing.specs.Closing.{closedFile}
 use Rattle.events.specs.declared.Answer.{Answer}
@@ -73,7 +74,7 @@ Filed =
     × (said (filed events) 8 ≡ 0 ∷ 0 ∷ 9 ∷ countOctets 0 0)
 
 pub files : Filed
-unfolding wordsOf managerIn routeIn openOn closeOn receiveOn timestampOf wordOf dateFrom monthDays fileOctets fixedOctets recordsOctets recordOctets highest lowest freshOf settingsVerdict wrongShape beyondRange equalFilters settingsRight sameFilter stateRight fileRight fits routeOf openOf closeOf receiveOf closedFile splice answerOf entryOf
+unfolding wordsOf managerIn routeIn openOn closeOn receiveOn timestampOf wordOf dateFrom monthDays fileOctets fixedOctets recordsOctets recordOctets highest lowest freshOf settingsVerdict routesIn wrongShape beyondRange equalFilters wrongSets setTimesFrom settingsRight sameFilter stateRight setsRight fileRight fits routeOf openOf closeOf receiveOf closedFile splice answerOf entryOf
 files = (refl, refl, refl, refl)
 
 -- A counter at its end, or one below it, in the words of the fresh manager (words, Words.antt): the manager's unrouted records are
@@ -102,5 +103,5 @@ Full =
     × (told 7 last 1 ≡ lost) × (told 19 last 1 ≡ lost)
 
 pub full : Full
-unfolding wordsOf managerIn routeIn receiveOn freshOf settingsVerdict wrongShape beyondRange equalFilters settingsRight sameFilter stateRight fileRight fits routeOf receiveOf
+unfolding wordsOf managerIn routeIn receiveOn freshOf settingsVerdict routesIn wrongShape beyondRange equalFilters wrongSets setTimesFrom settingsRight sameFilter stateRight setsRight fileRight fits routeOf receiveOf
 full = (refl, refl, refl, refl, refl, refl, refl, refl, refl, refl)

@@ -17,7 +17,7 @@ use Rattle.state.specs.Manager.{noFile, filterOf}
 use Rattle.state.specs.Bounds.{sameFilter, settingsRight, sameRelease}
 use Rattle.state.specs.Loss.{lost}
 use Rattle.state.specs.Routing.{nobody, better, fits}
-use Rattle.settings.specs.Settings.{unusedRoute, wrongShape, beyondRange, equalFilters, freshOf}
+use Rattle.settings.specs.Settings.{unusedRoute, routesIn, wrongShape, beyondRange, equalFilters, wrongSets, setTimesFrom, freshOf}
 use Rattle.settings.specs.Settings.{verdict as settingsVerdict}
 use Rattle.events.specs.declared.Arrival.{Arrival}
 use Rattle.events.specs.Rules.{later, earlier, allowed, wrongFields}
@@ -26,7 +26,7 @@ use Rattle.events.specs.Receive.{recordOf}
 use Rattle.ledger.specs.Ledger.{none, Line, Ledger}
 use Rattle.ledger.specs.Run.{ledgerFrom}
 
--- Settings of two routes in which no two fields of one width are equal, kinds apart, and none is 0 but a flag. The other flag can
+-- Settings of two routes with set times in which no two fields of one width are equal, kinds apart, and none is 0 but a flag. The other flag can
 -- only be 1.
 abbrev address : List ℕ
 address = 0xA0 ∷ 0xA1 ∷ 0xA2 ∷ 0xA3 ∷ 0xA4 ∷ 0xA5 ∷ 0xA6 ∷ 0xA7 ∷ 0xA8 ∷ 0xA9 ∷ 0xAA ∷ 0xAB ∷ 0xAC ∷ 0xAD ∷ 0xAE ∷ 0xAF ∷ []
@@ -61,7 +61,11 @@ octets =
     ∷ 0
     ∷ 0xE6
     ∷ 10
-    ∷ 0x1A ∷ 0x1B ∷ 0x1C ∷ 0x1D ∷ [])
+    ∷ 0x1A ∷ 0x1B ∷ 0x1C ∷ 0x1D
+    -- set times: two of the first route, one of the second
+    ∷ 3 ∷ 0 ∷ 0x02 ∷ 0x03
+    ∷ 3 ∷ 0 ∷ 0x04 ∷ 0x05
+    ∷ 3 ∷ 1 ∷ 0x05 ∷ 0x06 ∷ [])
 
 abbrev firstSettings : RouteSettings
 firstSettings =
@@ -102,6 +106,7 @@ manager =
       bias = 1499;
       last = 0;
       unrouted = 0;
+      setTimes = 2 ∷ 1 ∷ (replicate 6 0 ++ (0x0203 ∷ 0x0405 ∷ (replicate 22 0 ++ (0x0506 ∷ replicate 167 0))));
     }
 
 abbrev ledger : Ledger
@@ -111,6 +116,7 @@ ledger =
       bias = 1499;
       time = 0;
       unrouted = 0;
+      sets = (0x0203 ∷ 0x0405 ∷ []) ∷ (0x0506 ∷ []) ∷ [];
       lines = line firstSettings 0x0C0D0E0F ∷ line secondSettings 0x1A1B1C1D ∷ [];
     }
 
@@ -118,7 +124,7 @@ abbrev pub SettingsOctets : Type 0
 SettingsOctets = (freshOf octets ≡ record { refusal = 0; manager = manager }) × (ledgerFrom octets ≡ ledger)
 
 pub settings-octets : SettingsOctets
-unfolding freshOf settingsVerdict wrongShape beyondRange equalFilters settingsRight sameFilter
+unfolding freshOf settingsVerdict routesIn wrongShape beyondRange equalFilters wrongSets setTimesFrom settingsRight sameFilter
 settings-octets = (refl, refl)
 
 -- A filter of three octets: equal to the key, a prefix of it, longer than it, different in the last octet, and in the first.

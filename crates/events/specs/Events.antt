@@ -1,6 +1,6 @@
--- OPEN, CLOSE and TICK (document 01, The events; Refusals) over any state, store, output and arguments: the refusals in
+-- OPEN, CLOSE and TICK (document 01, The events; Refusals; document 02, ask 6) over any state, store, output and arguments: the refusals in
 -- their order, or what the event leaves: answer, state, store and output. Assumes nothing.
-use mathlib.Core.Bool.{cond, not}
+use mathlib.Core.Bool.{Bool, cond, not}
 use mathlib.Core.List.{List, [], _∷_, _++_}
 use Prim.Native.Nat.{ℕ, zero, suc, _+_}
 use lib.Dec.{ltb, leb, eqb}
@@ -13,7 +13,8 @@ use Rattle.state.specs.Manager.{routeAt, effective, withRoute, withTime}
 use Rattle.state.specs.Common.{common}
 use Rattle.filing.specs.Closing.{closedFile, closedSize}
 use Rattle.events.specs.declared.Answer.{Answer}
-use Rattle.events.specs.Rules.{openedRoute, closedRoute, due, allowed}
+use Rattle.events.specs.Met.{met}
+use Rattle.events.specs.Rules.{openedRoute, closedRoute, due, ending, allowed}
 
 -- an event's answer and the state behind it
 pub record Outcome : Type 0 where
@@ -87,28 +88,38 @@ closeOf m store output time route reason =
     settled (first (closeRules m (length store) (length output) time route reason)) (closedSize (routeAt m route)) m store output
     (closed m store output time route reason)
 
--- TICK: the routes below n, in order, each closed with 2 if its file is due
+-- TICK: the routes below n, in order. A file closes with 2 if its age has reached the limit, or else with 0 if a set minute has fallen in
+-- its time (document 02, ask 6)
+abbrev pub metAt : Manager → ℕ → ℕ → Bool
+metAt m t i = met (m .setTimes) i (m .bias) (routeAt m i .file .opened) t
+
+abbrev pub ends : Manager → ℕ → ℕ → Bool
+ends m t i = ending t (routeAt m i) (metAt m t i)
+
+abbrev pub endReason : Manager → ℕ → ℕ → ℕ
+endReason m t i = cond (due t (routeAt m i)) 2 0
+
 pub record Run : Type 0 where
   pub manager : Manager
   pub octets : List ℕ
   pub files : ℕ
 
-abbrev pub closing : Manager → List ℕ → ℕ → Run → Run
-closing m store i run =
+abbrev pub closing : Manager → List ℕ → ℕ → ℕ → Run → Run
+closing m store t i run =
     record {
       manager = withRoute (run .manager) i (closedRoute (routeAt m i));
-      octets = run .octets ++ closedFile m store i 2;
+      octets = run .octets ++ closedFile m store i (endReason m t i);
       files = run .files + 1;
     }
 
 abbrev pub upTo : Manager → List ℕ → ℕ → ℕ → Run
 upTo m store t zero = record { manager = m; octets = []; files = 0 }
-upTo m store t (suc n) = cond (due t (routeAt m n)) (closing m store n (upTo m store t n)) (upTo m store t n)
+upTo m store t (suc n) = cond (ends m t n) (closing m store t n (upTo m store t n)) (upTo m store t n)
 
--- the octets of the files that are due, from the state alone
+-- the octets of the files that end, from the state alone
 abbrev pub dueSize : Manager → ℕ → ℕ → ℕ
 dueSize m t zero = 0
-dueSize m t (suc n) = dueSize m t n + cond (due t (routeAt m n)) (closedSize (routeAt m n)) 0
+dueSize m t (suc n) = dueSize m t n + cond (ends m t n) (closedSize (routeAt m n)) 0
 
 abbrev pub tickRules : Manager → ℕ → ℕ → ℕ → List Rule
 tickRules m store output time =

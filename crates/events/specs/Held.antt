@@ -22,8 +22,8 @@ use Rattle.state.specs.Routing.{nobody, routeOf}
 use Rattle.state.specs.Within.{within}
 use Rattle.words.specs.Laws.{HeldRelease, HeldRoute, Held, held-route}
 use Rattle.events.specs.declared.Arrival.{Arrival}
-use Rattle.events.specs.Rules.{openedRoute, closedRoute, lostRoute, notedRoute, appendedRoute, full, due, wrongFields, headerFor, recordSize, routedTo}
-use Rattle.events.specs.Events.{After, settled, opened, openRules, openOf, closed, closeRules, closeOf, closing, upTo, ticked, tickRules, tickOf}
+use Rattle.events.specs.Rules.{openedRoute, closedRoute, lostRoute, notedRoute, appendedRoute, full, wrongFields, headerFor, recordSize, routedTo}
+use Rattle.events.specs.Events.{After, settled, opened, openRules, openOf, closed, closeRules, closeOf, ends, closing, upTo, ticked, tickRules, tickOf}
 use Rattle.state.specs.Common.{common}
 use Rattle.events.specs.Receive.{isLost, turns, holding, finished, countersFull, needed, noted, lostAt, placedAt, unrouted, taken, receiveRules, receiveOf}
 
@@ -64,7 +64,7 @@ held-appended {r} h x g n t =
 
 -- What is done to the state.
 held-time : {m : Manager} → Held m → (t : ℕ) → Held (withTime m t)
-held-time h t = record { eight = h .eight; routes = h .routes; address = h .address }
+held-time h t = record { eight = h .eight; routes = h .routes; address = h .address; sets = h .sets }
 
 -- refused or not
 held-settled : {m : Manager} → Held m → (n needed : ℕ) (store output : List ℕ) (done : After) → (n ≡ 0 → Held (done .outcome .manager))
@@ -104,9 +104,9 @@ module _ {m : Manager} (h : Held m) (store output : List ℕ) (time : ℕ) where
   -- TICK
   up-to-held : (t n : ℕ) → Held (upTo m store t n .manager)
   up-to-held t zero = h
-  up-to-held t (suc n) = go (due t (routeAt m n)) (up-to-held t n)
+  up-to-held t (suc n) = go (ends m t n) (up-to-held t n)
     where
-      go : (b : Bool) → Held (upTo m store t n .manager) → Held (cond b (closing m store n (upTo m store t n)) (upTo m store t n) .manager)
+      go : (b : Bool) → Held (upTo m store t n .manager) → Held (cond b (closing m store t n (upTo m store t n)) (upTo m store t n) .manager)
       go true k = held-route k n (closedRoute (routeAt m n)) (λ low. held-closed (h .routes n low))
       go false k = k
 
@@ -117,7 +117,7 @@ module _ {m : Manager} (h : Held m) (store output : List ℕ) (time : ℕ) where
       (λ e. held-time (up-to-held (effective m time) (m .count)) (effective m time))
 
   -- RECEIVE
-  noted-held : (n : ℕ) → Held (record { routes = noted m n; count = m .count; address = m .address; bias = m .bias; last = m .last; unrouted = m .unrouted })
+  noted-held : (n : ℕ) → Held (record { routes = noted m n; count = m .count; address = m .address; bias = m .bias; last = m .last; unrouted = m .unrouted; setTimes = m .setTimes })
   noted-held zero = h
   noted-held (suc n) = held-route (noted-held n) n (notedRoute (routeAt m n)) (λ low. held-noted (h .routes n low))
 
@@ -195,4 +195,4 @@ module _ {m : Manager} (h : Held m) (store output : List ℕ) (time : ℕ) where
             (lost-or e (trusted f) (isLost m a to (length body)) refl)
         found e false f =
             subst (λ (b : Bool). Held (cond b (cond (isLost m a to (length body)) (lostAt m store output (effective m time) to) (placedAt m store output (effective m time) a body to)) (unrouted m store output (effective m time)) .outcome .manager)) (sym f)
-            (record { eight = noted-held (m .count) .eight; routes = noted-held (m .count) .routes; address = h .address })
+            (record { eight = noted-held (m .count) .eight; routes = noted-held (m .count) .routes; address = h .address; sets = h .sets })

@@ -32,7 +32,7 @@ abbrev pub unlike : List ℕ → List ℕ → List ℕ → Left
 unlike words store output = left (refusalOf 18 0) words store output
 
 abbrev pub lent : List ℕ → List ℕ → List ℕ → (Manager → After) → Left
-lent words store output event = cond (eqb (length words) 160) (worded (event (managerIn words))) (unlike words store output)
+lent words store output event = cond (eqb (length words) 360) (worded (event (managerIn words))) (unlike words store output)
 
 unfoldable pub openOn : List ℕ → List ℕ → List ℕ → ℕ → ℕ → Left
 openOn words store output time route = lent words store output (λ m. openOf m store output time route)

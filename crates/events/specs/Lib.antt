@@ -1,3 +1,4 @@
+pub mod Met
 pub mod Rules
 pub mod Events
 pub mod Receive

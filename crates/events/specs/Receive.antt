@@ -109,7 +109,7 @@ unrouted m store output t =
     after
     (record {
       answer = answered 4 255 0 0;
-      manager = record { routes = noted m (m .count); count = m .count; address = m .address; bias = m .bias; last = t; unrouted = m .unrouted + 1 };
+      manager = record { routes = noted m (m .count); count = m .count; address = m .address; bias = m .bias; last = t; unrouted = m .unrouted + 1; setTimes = m .setTimes };
     })
     store output
 

@@ -104,6 +104,10 @@ full r = ltb 0 (r .settings .most) && eqb (r .file .count) (r .settings .most)
 abbrev pub due : ℕ → Route → Bool
 due t r = r .«open» && ltb 0 (r .settings .age) && leb (r .file .opened + r .settings .age) t
 
+-- or a set minute has fallen since its opening (document 02, ask 6)
+abbrev pub ending : ℕ → Route → Bool → Bool
+ending t r met = due t r || (r .«open» && met)
+
 -- reasons that CLOSE may give: 0, 4 or 128 to 131
 abbrev pub allowed : ℕ → Bool
 allowed reason = eqb reason 0 || eqb reason 4 || (leb 128 reason && leb reason 131)

@@ -35,12 +35,12 @@ kept (suc n) needed m store output done e h = (refl, refl, refl)
 
 -- on words
 unchanged : (words store output : List ℕ) (event : Manager → After) → Kept (managerIn words) store output (event (managerIn words)) → Unchanged words store output (lent words store output event)
-unchanged words store output event k = go (eqb (length words) 160) refl
+unchanged words store output event k = go (eqb (length words) 360) refl
   where
-    go : (b : Bool) → eqb (length words) 160 ≡ b → Unchanged words store output (cond b (worded (event (managerIn words))) (unlike words store output))
+    go : (b : Bool) → eqb (length words) 360 ≡ b → Unchanged words store output (cond b (worded (event (managerIn words))) (unlike words store output))
     go true e h =
         let t = k h in
-        let same = words-words words (eqb-true (length words) 160 e) in
+        let same = words-words words (eqb-true (length words) 360 e) in
         let a = event (managerIn words) in
         (λ i. left (a .outcome .answer) (wordsOf (t .0 i)) (t .1 i) (t .2 i)) ∙ (λ i. left (a .outcome .answer) (same i) store output)
     go false e h = refl

@@ -17,15 +17,15 @@ use Rattle.events.specs.Events.{After, after, refusalOf, refused, answer
 use Rattle.events.specs.Lent.{left, worded, unlike, lent}
 
 module _ (words store output : List ℕ) (event : Manager → After) where
-  pub other-number : (length words ≡ 160 → ⊥) → {r : Answer} → r ≡ refusalOf 18 0 → left r words store output ≡ lent words store output event
+  pub other-number : (length words ≡ 360 → ⊥) → {r : Answer} → r ≡ refusalOf 18 0 → left r words store output ≡ lent words store output event
   other-number n e =
       ap (λ (r : Answer). left r words store output) e
-      ∙ sym (λ i. cond (ne-eqb (length words) 160 n i) (worded (event (managerIn words))) (unlike words store output))
+      ∙ sym (λ i. cond (ne-eqb (length words) 360 n i) (worded (event (managerIn words))) (unlike words store output))
 
-  module _ (e : length words ≡ 160) where
+  module _ (e : length words ≡ 360) where
     -- what the event leaves on the state, as words
     pub right-number : {a : After} → a ≡ event (managerIn words) → worded a ≡ lent words store output event
-    right-number p = ap worded p ∙ sym (λ i. cond (eq-eqb (length words) 160 e i) (worded (event (managerIn words))) (unlike words store output))
+    right-number p = ap worded p ∙ sym (λ i. cond (eq-eqb (length words) 360 e i) (worded (event (managerIn words))) (unlike words store output))
 
     -- refused: the words are as they were
     pub way-refused : (n needed : ℕ) {r : Answer} {store′ output′ : List ℕ} → r ≡ refusalOf n needed

@@ -2,14 +2,17 @@
 // what an opening and a closing do to a route.
 mod answers;
 mod routes;
+mod sets;
 
 pub use answers::accept;
 pub use answers::refuse;
 pub use routes::closed_route;
 pub use routes::closed_size;
-pub use routes::due_octets;
-pub use routes::is_due;
+pub use routes::end_octets;
+pub use routes::end_reason;
+pub use routes::is_ending;
 pub use routes::opened_route;
+pub use sets::is_met;
 
 // What an event answers: refusal 0 with the outcome (1 opened, 2 placed, 3 lost, 4 unrouted, 5 closed, 6 ticked), the route (255
 // for 4 and 6), the number of files closed and the octets written to the output; or a refusal with zeros, but 17 with the

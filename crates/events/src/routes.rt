@@ -3,7 +3,7 @@ ghost use mathlib.Core.Path.{_≡_};
 ghost use mathlib.Core.Bool.{cond};
 ghost use Prim.Native.Nat.{_<_};
 ghost use Rattle.filing.specs.Closing.{closedSize};
-ghost use Rattle.events.specs.Rules.{openedRoute, closedRoute, due};
+ghost use Rattle.events.specs.Rules.{openedRoute, closedRoute, due, ending};
 use record::Release;
 use state::OpenFile;
 use state::Route;
@@ -76,16 +76,31 @@ pub fn closed_size(r: Route) -> usize
 }
 
 // Whether the route's file has reached its open-time limit at time t. The sum is taken in 64 bits.
-pub fn is_due(t: u32, r: Route) -> bool
+fn is_due(t: u32, r: Route) -> bool
     ensures { λ b. ⌜ b ≡ due t r ⌝ }
 {
     r.open & (0 < r.settings.age) & (r.file.opened as u64 + r.settings.age as u64 <= t as u64)
 }
 
-// The octets that a TICK at time t closes of the route.
-pub fn due_octets(t: u32, r: Route) -> usize
-    ensures { λ n. ⌜ (n ≡ cond (due t r) (closedSize r) 0) × (n < 8589934592) ⌝ }
+// Whether a TICK at time t closes the route's file; `met`: a set minute has fallen since its opening.
+pub fn is_ending(t: u32, r: Route, met: bool) -> bool
+    ensures { λ b. ⌜ b ≡ ending t r met ⌝ }
+{
+    let due = is_due(t, r);
+    due | (r.open & met)
+}
+
+// The reason of that: 2 where the open-time limit has been reached.
+pub fn end_reason(t: u32, r: Route) -> u8
+    ensures { λ n. ⌜ n ≡ cond (due t r) 2 0 ⌝ }
+{
+    if is_due(t, r) { 2 } else { 0 }
+}
+
+// And its octets, 0 where it does not.
+pub fn end_octets(t: u32, r: Route, met: bool) -> usize
+    ensures { λ n. ⌜ (n ≡ cond (ending t r met) (closedSize r) 0) × (n < 8589934592) ⌝ }
 {
     let size = closed_size(r);
-    if is_due(t, r) { size } else { 0 }
+    if is_ending(t, r, met) { size } else { 0 }
 }

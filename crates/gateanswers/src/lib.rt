@@ -107,7 +107,7 @@ fn print_route(page: &mut [u8], p: Printer, index: usize, r: Route) -> Printer {
 
 // The lines of the first `n` routes.
 fn print_routes(page: &mut [u8], p: Printer, words: &[u32], n: usize) -> Printer
-    requires { ⌜ (length (now words) ≡ 160) × (n ≤ 8) ⌝ }
+    requires { ⌜ (length (now words) ≡ 360) × (n ≤ 8) ⌝ }
 {
     let mut q = p;
     let mut i: usize = 0;
@@ -126,7 +126,7 @@ fn wide(w: u32) -> u64 {
 
 // The lines of the state: last time and number of unrouted records, and then the routes. Words that are no state print nothing.
 pub fn print_state(page: &mut [u8], p: Printer, words: &[u32]) -> Printer {
-    if words.len() != 160 {
+    if words.len() != 360 {
         return p;
     }
     let a = put_start(page, p, b'Q', wide(words[6]), wide(words[7]));

@@ -71,11 +71,11 @@ fn refused(mut run: Run, refusal: u8, page: &mut [u8]) -> Run {
 }
 
 // Copies a fresh manager's words over the lent ones.
-fn put_words(words: &mut [u32], fresh: &[u32; 160])
-    requires { ⌜ length (now words) ≡ 160 ⌝ }
+fn put_words(words: &mut [u32], fresh: &[u32; 360])
+    requires { ⌜ length (now words) ≡ 360 ⌝ }
 {
     let mut i: usize = 0;
-    while i < 160 {
+    while i < 360 {
         words[i] = fresh[i];
         i += 1;
     }
@@ -103,7 +103,7 @@ fn run_settings(
     if loaded.refusal != 0 {
         return refused(run, loaded.refusal, page);
     }
-    if words.len() != 160 {
+    if words.len() != 360 {
         return stopped(run);
     }
     let fresh = loaded.words;

@@ -6,6 +6,7 @@ ghost use Rattle.state.specs.Bounds.{routeRight, routesRight, stateRight};
 ghost use Rattle.words.specs.Words.{routeIn, managerIn};
 use crate::filters::are_distinct;
 use crate::ranges::settings_right;
+use crate::sets::sets_right;
 use words::count_of;
 use words::file_in;
 use words::flag_of;
@@ -29,7 +30,7 @@ fn route_right(last: u32, part: &[u32]) -> bool
 
 // Whether the routes below n are right.
 pub fn routes_right(words: &[u32], n: usize) -> bool
-    requires { ⌜ (length (now words) ≡ 160) × (n ≤ 8) ⌝ }
+    requires { ⌜ (length (now words) ≡ 360) × (n ≤ 8) ⌝ }
     ensures { λ b. ⌜ b ≡ routesRight (managerIn (now (words .entry))) n ⌝ }
 {
     let last = words[6];
@@ -46,7 +47,7 @@ pub fn routes_right(words: &[u32], n: usize) -> bool
 
 // Whether the state is within its bounds. More routes than eight are told first, so that none is looked for that is not there.
 pub fn state_right(words: &[u32]) -> bool
-    requires { ⌜ length (now words) ≡ 160 ⌝ }
+    requires { ⌜ length (now words) ≡ 360 ⌝ }
     ensures { λ b. ⌜ b ≡ stateRight (managerIn (now (words .entry))) ⌝ }
 {
     let n = count_of(words);
@@ -55,5 +56,6 @@ pub fn state_right(words: &[u32]) -> bool
     }
     let routes = routes_right(words, n);
     let filters = are_distinct(words, n);
-    (1 <= n) & (n <= 8) & (words[4] <= 2878) & (words[6] <= 52595999) & routes & filters
+    let sets = sets_right(words, n);
+    (1 <= n) & (n <= 8) & (words[4] <= 2878) & (words[6] <= 52595999) & routes & filters & sets
 }

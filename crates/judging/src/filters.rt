@@ -21,7 +21,7 @@ fn same_filter(a: &[u32], b: &[u32]) -> bool
 
 // Whether no route below n has the filter of route i.
 fn is_new(words: &[u32], i: usize, n: usize) -> bool
-    requires { ⌜ (length (now words) ≡ 160) × (i < 8) × (n ≤ 8) ⌝ }
+    requires { ⌜ (length (now words) ≡ 360) × (i < 8) × (n ≤ 8) ⌝ }
     ensures { λ b. ⌜ b ≡ newTo (managerIn (now (words .entry))) (settingsAt (managerIn (now (words .entry))) i) n ⌝ }
 {
     let of = 8 + 19 * i;
@@ -53,7 +53,7 @@ fn filter_sum(part: &[u32]) -> u64
 
 // The sums of the routes below n.
 fn filter_sums(words: &[u32], n: usize) -> [u64; 8]
-    requires { ⌜ (length (now words) ≡ 160) × (n ≤ 8) ⌝ }
+    requires { ⌜ (length (now words) ≡ 360) × (n ≤ 8) ⌝ }
     ensures { λ r. ⌜ SumsOf (now (words .entry)) r n ⌝ }
 {
     let mut sums = [0u64; 8];
@@ -98,7 +98,7 @@ fn are_sums_distinct(sums: &[u64; 8], n: usize) -> bool
 // Whether no two of the routes below n have equal filters. As a rule a number of each tells: only where two are equal are the filters
 // compared.
 pub fn are_distinct(words: &[u32], n: usize) -> bool
-    requires { ⌜ (length (now words) ≡ 160) × (n ≤ 8) ⌝ }
+    requires { ⌜ (length (now words) ≡ 360) × (n ≤ 8) ⌝ }
     ensures { λ b. ⌜ b ≡ distinct (managerIn (now (words .entry))) n ⌝ }
 {
     let sums = filter_sums(words, n);

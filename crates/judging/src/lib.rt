@@ -4,6 +4,7 @@ mod bounds;
 mod filters;
 mod ranges;
 mod regions;
+mod sets;
 
 pub use bounds::routes_right;
 pub use bounds::state_right;
@@ -20,7 +21,7 @@ use refusals::either;
 
 // The first of 18, 16 and 4 that applies, or 0; `store` is the store's length.
 pub fn common_refusal(words: &[u32], store: usize, time: u32) -> u8
-    requires { ⌜ length (now words) ≡ 160 ⌝ }
+    requires { ⌜ length (now words) ≡ 360 ⌝ }
     ensures { λ r. ⌜ r ≡ first (common (managerIn (now (words .entry))) store time []) ⌝ }
 {
     let right = state_right(words);

@@ -9,7 +9,7 @@ use words::settings_at;
 
 // Where the region of route n starts; for the number of routes, where the last region ends.
 pub fn region_base(words: &[u32], n: usize) -> usize
-    requires { ⌜ (length (now words) ≡ 160) × (n ≤ 8) ⌝ }
+    requires { ⌜ (length (now words) ≡ 360) × (n ≤ 8) ⌝ }
     ensures { λ r. ⌜ r ≡ base (managerIn (now (words .entry))) n ⌝ }
 {
     let mut start: usize = 0;
@@ -24,7 +24,7 @@ pub fn region_base(words: &[u32], n: usize) -> usize
 
 // The length of all regions, in any state.
 pub fn regions_of(words: &[u32]) -> usize
-    requires { ⌜ length (now words) ≡ 160 ⌝ }
+    requires { ⌜ length (now words) ≡ 360 ⌝ }
     ensures { λ r. ⌜ r ≡ regions (managerIn (now (words .entry))) ⌝ }
 {
     let n = count_of(words);

@@ -4,15 +4,16 @@ use mathlib.Core.Path.{_≡_}
 use mathlib.Core.Bool.{true, false}
 use mathlib.Core.List.{List, [], _∷_}
 use Prim.Native.Nat.{ℕ, _<_, _^_}
-use lib.ListN.{length, take, drop}
+use lib.ListN.{length, getD, take, drop}
 use Rattle.octets.specs.Number.{Octets}
 use Rattle.record.specs.Record.{Record, AllRight, recordsOctets}
 use Rattle.state.specs.declared.RouteSettings.{RouteSettings}
 use Rattle.state.specs.declared.Route.{Route}
 use Rattle.state.specs.Manager.{Manager}
 use Rattle.state.specs.Manager.{routeAt, base}
+use Rattle.state.specs.SetTimes.{setCount, setMinute}
 use Rattle.state.specs.Bounds.{stateRight}
-use Rattle.ledger.specs.Ledger.{OpenFile, Current, none, some, Line, Ledger, lineAt, highest, lowest}
+use Rattle.ledger.specs.Ledger.{OpenFile, Current, none, some, Line, Ledger, lineAt, minutesAt, highest, lowest}
 
 -- every record of a file has the format
 abbrev pub Formats : ℕ → List Record → Type 0
@@ -53,6 +54,11 @@ pub record AgreesLine (store : List ℕ) (base : ℕ) (r : Route) (x : Line) : T
   pub held : HeldSettings (r .settings)
   pub held-next : r .next < 2 ^ 32
 
+-- set minutes: as many, and the same
+pub record AgreesSets (sets : List ℕ) (i : ℕ) (minutes : List ℕ) : Type 0 where
+  pub count : setCount sets i ≡ length minutes
+  pub each : (j : ℕ) → j < length minutes → setMinute sets i j ≡ getD minutes j 0
+
 pub record Agrees (store : List ℕ) (m : Manager) (l : Ledger) : Type 0 where
   pub right : stateRight m ≡ true
   pub eight : length (m .routes) ≡ 8
@@ -62,4 +68,5 @@ pub record Agrees (store : List ℕ) (m : Manager) (l : Ledger) : Type 0 where
   pub bias : m .bias ≡ l .bias
   pub time : m .last ≡ l .time
   pub unrouted : m .unrouted ≡ l .unrouted
+  pub sets : (i : ℕ) → i < m .count → AgreesSets (m .setTimes) i (minutesAt l i)
   pub lines : (i : ℕ) → i < m .count → AgreesLine store (base m i) (routeAt m i) (lineAt l i)

@@ -26,7 +26,7 @@ use Rattle.events.specs.declared.Arrival.{Arrival}
 use Rattle.events.specs.Lent.{Left}
 use Rattle.events.specs.Receive.{recordOf}
 use Rattle.ledger.specs.Event.{Event, OPEN, CLOSE, TICK, RECEIVE, Lent}
-use Rattle.ledger.specs.Ledger.{OpenFile, Current, none, some, Line, Ledger, noLine, lineAt, fileFrom, openLine, closeLine, withCurrent, receivedLine, lostLine, notedLine, appendTo, withLine, withTime, Closing, Entry, recordsIn, recordsOf, isOpen, opens, closeEntry, dueFile, closeDue, tickTo, ticks, amongLines, routedTo, lostBy, differsFrom, exceedsWith, fullWith, Ready, openFor, turnOver, readyBy, appendEntry, places, loses, notedLines, unroutes, effective, closingReasons, isOneOf, fitsMark, anyFull, countersFull, refusal, neededBy, regions, answerBy, entryBy, answerOf, entryOf}
+use Rattle.ledger.specs.Ledger.{OpenFile, Current, none, some, Line, Ledger, noLine, lineAt, fileFrom, openLine, closeLine, withCurrent, receivedLine, lostLine, notedLine, appendTo, withLine, withTime, Closing, Entry, recordsIn, recordsOf, isOpen, opens, closeEntry, minutesAt, Fate, goesOn, endsWith, fateOf, closeBy, closeDue, tickTo, ticks, amongLines, routedTo, lostBy, differsFrom, exceedsWith, fullWith, Ready, openFor, turnOver, readyBy, appendEntry, places, loses, notedLines, unroutes, effective, closingReasons, isOneOf, fitsMark, anyFull, countersFull, refusal, neededBy, regions, answerBy, entryBy, answerOf, entryOf}
 use Rattle.ledger.specs.Run.{Booked, booked, booksOf, ledgerAfter, lineFrom, linesFrom, ledgerFrom}
 use Rattle.ledger.specs.Demand3.{receivedOn, lostRule, unroutedBy, one, received, lost, unrouted, placedIf, placed, onRoute, closedOn, AllBelow, Answered}
 
@@ -513,9 +513,9 @@ module _ (l : Ledger) (t n : ℕ) (e : Entry) (h : Ticked l n e) where
         line = h .line;
       }
 
-  module _ (f : OpenFile) (q : lineAt l n .current ≡ some f) where
+  module _ (f : OpenFile) (q : lineAt l n .current ≡ some f) (reason : ℕ) where
     abbrev due : File
-    due = fileFrom l (lineAt l n) f 2
+    due = fileFrom l (lineAt l n) f reason
 
     abbrev over : Line
     over = closeLine (lineAt l n) due
@@ -568,13 +568,13 @@ module _ (l : Ledger) (t n : ℕ) (e : Entry) (h : Ticked l n e) where
           line = λ i low. on-step i low (eqb n i) refl;
         }
 
-    ticked-due : (b : Bool) → Ticked l (suc n) (cond b on e)
-    ticked-due true = ticked-close
-    ticked-due false = ticked-on
+  ticked-by : (f : OpenFile) (q : lineAt l n .current ≡ some f) (fate : Fate) → Ticked l (suc n) (closeBy fate l n (lineAt l n) f e)
+  ticked-by f q goesOn = ticked-on
+  ticked-by f q (endsWith reason) = ticked-close f q reason
 
   ticked-step : (c : Current) → lineAt l n .current ≡ c → Ticked l (suc n) (closeDue l t n (lineAt l n) c e)
   ticked-step none q = ticked-on
-  ticked-step (some f) q = ticked-due f q (dueFile t (lineAt l n) f)
+  ticked-step (some f) q = ticked-by f q (fateOf (l .bias) t (lineAt l n) (minutesAt l n) f)
 
 ticked : (l : Ledger) (t n : ℕ) → Ticked l n (tickTo l t n)
 ticked l t zero =

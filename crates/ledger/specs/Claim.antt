@@ -67,7 +67,7 @@ EventHolds =
 module _ {m : Manager} (h : Held m) (store output : List ℕ) where
   on-words : (event : Manager → After) → lent (wordsOf m) store output event ≡ worded (event m)
   on-words event =
-      (λ i. cond (eq-eqb (length (wordsOf m)) 160 (words-length m (h .eight)) i) (worded (event (managerIn (wordsOf m)))) (unlike (wordsOf m) store output))
+      (λ i. cond (eq-eqb (length (wordsOf m)) 360 (words-length m (h .eight) (h .sets)) i) (worded (event (managerIn (wordsOf m)))) (unlike (wordsOf m) store output))
       ∙ ap (λ (n : Manager). worded (event n)) (manager-words m h)
 
   leaves-worded : (e : Event) → leaves (wordsOf m) store output e ≡ worded (happens m store output e)

@@ -9,11 +9,15 @@ use lib.Seq.{getD-at}
 use Rattle.octets.specs.Number.{Octets, num-lt, octetsAt-length, octetsAt-octets}
 use Rattle.state.specs.declared.Route.{Route}
 use Rattle.state.specs.Manager.{base}
-use Rattle.settings.specs.Settings.{routesIn, routeStart, routeFrom, managerFrom, verdict, freshOf}
-use Rattle.settings.specs.Accepted.{routes-length, refusal-is, accepted-right, accepted-route}
+use Rattle.state.specs.SetTimes.{set-within}
+use Rattle.state.specs.Within.{within}
+use Rattle.settings.specs.Settings.{routesIn, setsIn, routeStart, routeFrom, minutesOf, setTimesFrom, managerFrom, verdict, freshOf}
+use Rattle.settings.specs.Cases.{routes-length}
+use Rattle.settings.specs.Sets.{set-count-is, set-minute-is}
+use Rattle.settings.specs.Accepted.{refusal-is, accepted-right, accepted-route}
 use Rattle.ledger.specs.Ledger.{lineAt, noLine}
-use Rattle.ledger.specs.Run.{lineFrom, linesFrom, ledgerFrom}
-use Rattle.ledger.specs.Agrees.{Agrees, AgreesLine}
+use Rattle.ledger.specs.Run.{lineFrom, linesFrom, setsFrom, ledgerFrom}
+use Rattle.ledger.specs.Agrees.{Agrees, AgreesLine, AgreesSets}
 use Rattle.ledger.specs.Books.{fresh-length}
 
 -- the lines by number
@@ -29,6 +33,20 @@ line-from xs (suc n) i h = go (ℕ-discrete i n) (λ k. line-from xs n i k)
     go (yes p) f = getD-at (linesFrom xs n) (lineFrom xs (routeStart n)) [] noLine i (lines-length xs n ∙ sym p) ∙ ap (λ (k : ℕ). lineFrom xs (routeStart k)) (sym p)
     go (no p) f =
         List·getD-append (linesFrom xs n) (lineFrom xs (routeStart n) ∷ []) noLine i (omega (arith, lines-length xs n)) ∙ f (omega arith)
+
+-- and the set minutes
+sets-length : (xs : List ℕ) (n : ℕ) → length (setsFrom xs n) ≡ n
+sets-length xs zero = refl
+sets-length xs (suc n) = length-append (setsFrom xs n) (minutesOf xs n (setsIn xs) ∷ []) ∙ omega (arith, sets-length xs n)
+
+sets-from : (xs : List ℕ) (n i : ℕ) → i < n → getD (setsFrom xs n) i [] ≡ minutesOf xs i (setsIn xs)
+sets-from xs zero i h = absurd (omega arith)
+sets-from xs (suc n) i h = go (ℕ-discrete i n) (λ k. sets-from xs n i k)
+  where
+    go : Dec (i ≡ n) → (i < n → getD (setsFrom xs n) i [] ≡ minutesOf xs i (setsIn xs)) → getD (setsFrom xs (suc n)) i [] ≡ minutesOf xs i (setsIn xs)
+    go (yes p) f = getD-at (setsFrom xs n) (minutesOf xs n (setsIn xs)) [] [] i (sets-length xs n ∙ sym p) ∙ ap (λ (k : ℕ). minutesOf xs k (setsIn xs)) (sym p)
+    go (no p) f =
+        List·getD-append (setsFrom xs n) (minutesOf xs n (setsIn xs) ∷ []) [] i (omega (arith, sets-length xs n)) ∙ f (omega arith)
 
 module _ (xs : List ℕ) (o : Octets xs) (e : freshOf xs .refusal ≡ 0) where
   taken : verdict xs ≡ 0
@@ -51,6 +69,14 @@ module _ (xs : List ℕ) (o : Octets xs) (e : freshOf xs .refusal ≡ 0) where
         held-next = num-lt o 4 (routeStart i + 37);
       }
 
+  sets-agree : (i : ℕ) → i < routesIn xs → AgreesSets (setTimesFrom xs (setsIn xs)) i (minutesOf xs i (setsIn xs))
+  sets-agree i h =
+      let w = within (managerFrom xs (routesIn xs)) (accepted-right xs taken) in
+      let low : i < 8 = omega (arith, w .few) in
+      let c = set-count-is xs (setsIn xs) i low in
+      let few = set-within (setTimesFrom xs (setsIn xs)) (routesIn xs) (w .sets) i h .few in
+      record { count = c; each = λ j l. set-minute-is xs (setsIn xs) i j low (omega (arith, c, few)) }
+
   pub fresh-agrees : (store : List ℕ) → Agrees store (managerFrom xs (routesIn xs)) (ledgerFrom xs)
   fresh-agrees store =
       let m = managerFrom xs (routesIn xs) in
@@ -63,6 +89,7 @@ module _ (xs : List ℕ) (o : Octets xs) (e : freshOf xs .refusal ≡ 0) where
         bias = refl;
         time = refl;
         unrouted = refl;
+        sets = λ i h. subst (AgreesSets (m .setTimes) i) (sym (sets-from xs (routesIn xs) i h)) (sets-agree i h);
         lines =
             λ i h.
             subst (λ (r : Route). AgreesLine store (base m i) r (lineAt (ledgerFrom xs) i)) (sym (accepted-route xs taken i h))

@@ -1,18 +1,17 @@
--- The ledger (document 01, The ledger of demand 3). It is fed the settings, the store's length, and each event's arguments and
--- output length: no answers, nothing of the manager's state, no octets of the store. Records are records and files are files:
--- it holds the last time, the number of unrouted records and for each route how many records were received and lost (without
+-- The ledger (document 01, The ledger of demand 3; document 02, asks 3 and 6). It is fed the settings, the store's length, and each
+-- event's arguments and output length: no answers, nothing of the manager's state, no octets of the store. Records are records and files
+-- are files: it holds the last time, the number of unrouted records and for each route how many records were received and lost (without
 -- bound), the next sequence number, known losses and unrouted records since its last file closed, its closed files, and its open file if
 -- any. Opening, appending, closing, ages, sizes and every refusal are stated here anew, on records. Shared with the manager's
--- definitions, and held apart from both: the places of the settings' octets (`settingsFrom`), the choice of a filter (`better`) and
--- what a header carries of it (`filterOf`), the loss rule (`lost`), the indicator, the order and sameness of releases (`later`,
--- `earlier`, `sameRelease`), the record of an arrival (`recordOf`), the header's size (`headerSize`) and the layout, the octets of the
--- loss counts (`countOctets`), local time
--- (`timestampOf`), which refusal is the first (`first`), and the form of an answer (`answered`). Edge_table's Shared and EdgeTable
--- evaluate these; `header-size` (filing), `counts-back` (counts), `indicator-true` (state), `timestamp-right` (timestamp) and record's Order are laws of
--- theirs. Assumes nothing.
+-- definitions, and held apart from both: the places of the settings' octets (`settingsFrom`, `minutesOf`), the choice of a filter
+-- (`better`) and what a header carries of it (`filterOf`), the loss rule (`lost`), the indicator, the order and sameness of releases
+-- (`later`, `earlier`, `sameRelease`), the record of an arrival (`recordOf`), the header's size (`headerSize`) and the layout, the octets
+-- of the loss counts (`countOctets`), local time (`timestampOf`), which refusal is the first (`first`), and the form of an answer
+-- (`answered`). Edge_table's Shared and EdgeTable evaluate these; `header-size` (filing), `counts-back` (counts), `indicator-true`
+-- (state), `timestamp-right` (timestamp) and record's Order are laws of theirs. Assumes nothing.
 use mathlib.Core.Bool.{Bool, true, false, cond, not, _&&_, _||_}
 use mathlib.Core.List.{List, [], _∷_, _++_}
-use Prim.Native.Nat.{ℕ, zero, suc, _+_, _%_, _^_, max}
+use Prim.Native.Nat.{ℕ, zero, suc, _+_, _-_, _%_, _^_, max}
 use lib.Dec.{ltb, leb, eqb}
 use lib.ListN.{length, getD, set}
 use Rattle.refusals.specs.Refusal.{Rule, _when_, first}
@@ -57,11 +56,13 @@ pub record Line : Type 0 where
   pub closed : List File
   pub current : Current
 
+-- `sets` are the set minutes of each route (document 02, ask 6)
 pub record Ledger : Type 0 where
   pub address : List ℕ
   pub bias : ℕ
   pub time : ℕ
   pub unrouted : ℕ
+  pub sets : List (List ℕ)
   pub lines : List Line
 
 abbrev pub noLine : Line
@@ -209,10 +210,10 @@ abbrev pub appendTo : OpenFile → Record → ℕ → OpenFile
 appendTo f r t = record { sequence = f .sequence; opened = f .opened; appended = t; records = f .records ++ (r ∷ []) }
 
 abbrev pub withLine : Ledger → ℕ → Line → Ledger
-withLine l i x = record { address = l .address; bias = l .bias; time = l .time; unrouted = l .unrouted; lines = set (l .lines) i x }
+withLine l i x = record { address = l .address; bias = l .bias; time = l .time; unrouted = l .unrouted; sets = l .sets; lines = set (l .lines) i x }
 
 abbrev pub withTime : Ledger → ℕ → Ledger
-withTime l t = record { address = l .address; bias = l .bias; time = t; unrouted = l .unrouted; lines = l .lines }
+withTime l t = record { address = l .address; bias = l .bias; time = t; unrouted = l .unrouted; sets = l .sets; lines = l .lines }
 
 -- a file that closes at an event, and the route that closes it
 pub record Closing : Type 0 where
@@ -260,15 +261,40 @@ closes l t i reason = closeEntry l t i reason (lineAt l i .current)
 abbrev pub dueFile : ℕ → Line → OpenFile → Bool
 dueFile t x f = ltb 0 (x .settings .age) && leb (f .opened + x .settings .age) t
 
+-- and each other closes with 0 for which a set minute has come: the first time behind its opening with that minute of the local day.
+-- Local time is minutes plus offset, which is bias less 1,439; a day more does not change the minute
+abbrev pub minuteOf : ℕ → ℕ → ℕ
+minuteOf bias time = (time + (bias + 1)) % 1440
+
+abbrev pub nextWith : ℕ → ℕ → ℕ → ℕ
+nextWith bias opened minute = opened + 1 + (1440 - minuteOf bias (opened + 1) + minute) % 1440
+
+abbrev pub oneCame : ℕ → ℕ → ℕ → List ℕ → Bool
+oneCame bias opened t [] = false
+oneCame bias opened t (minute ∷ minutes) = leb (nextWith bias opened minute) t || oneCame bias opened t minutes
+
+abbrev pub minutesAt : Ledger → ℕ → List ℕ
+minutesAt l i = getD (l .sets) i []
+
+-- so an open file goes on, or ends with a reason
+pub data Fate : Type 0 where
+  goesOn : Fate
+  endsWith : ℕ → Fate
+
+abbrev pub fateOf : ℕ → ℕ → Line → List ℕ → OpenFile → Fate
+fateOf bias t x minutes f = cond (dueFile t x f) (endsWith 2) (cond (oneCame bias (f .opened) t minutes) (endsWith 0) goesOn)
+
+abbrev pub closeBy : Fate → Ledger → ℕ → Line → OpenFile → Entry → Entry
+closeBy goesOn l i x f e = e
+closeBy (endsWith reason) l i x f e =
+    record {
+      ledger = withLine (e .ledger) i (closeLine x (fileFrom l x f reason));
+      closings = e .closings ++ (record { route = i; file = fileFrom l x f reason } ∷ []);
+    }
+
 abbrev pub closeDue : Ledger → ℕ → ℕ → Line → Current → Entry → Entry
 closeDue l t i x none e = e
-closeDue l t i x (some f) e =
-    cond (dueFile t x f)
-    (record {
-      ledger = withLine (e .ledger) i (closeLine x (fileFrom l x f 2));
-      closings = e .closings ++ (record { route = i; file = fileFrom l x f 2 } ∷ []);
-    })
-    e
+closeDue l t i x (some f) e = closeBy (fateOf (l .bias) t x (minutesAt l i) f) l i x f e
 
 -- the routes below n
 abbrev pub tickTo : Ledger → ℕ → ℕ → Entry
@@ -356,7 +382,7 @@ notedLines (x ∷ xs) = notedLine x ∷ notedLines xs
 abbrev pub unroutes : Ledger → ℕ → Entry
 unroutes l t =
     record {
-      ledger = record { address = l .address; bias = l .bias; time = t; unrouted = l .unrouted + 1; lines = notedLines (l .lines) };
+      ledger = record { address = l .address; bias = l .bias; time = t; unrouted = l .unrouted + 1; sets = l .sets; lines = notedLines (l .lines) };
       closings = [];
     }
 

@@ -1,6 +1,7 @@
 pub mod Event
 pub mod Ledger
 pub mod Agrees
+pub mod Came
 pub mod Run
 pub mod Demand3
 pub mod Right

@@ -23,7 +23,7 @@ use Rattle.state.specs.declared.Route.{Route}
 use Rattle.state.specs.Size.{headerSize}
 use Rattle.state.specs.Bounds.{sameRelease}
 use Rattle.events.specs.declared.Arrival.{Arrival}
-use Rattle.events.specs.Rules.{openedRoute, closedRoute, lostRoute, notedRoute, appendedRoute, later, earlier, highWith, lowWith, differs, exceeds, full, due, recordSize}
+use Rattle.events.specs.Rules.{openedRoute, closedRoute, lostRoute, notedRoute, appendedRoute, later, earlier, highWith, lowWith, differs, exceeds, full, due, ending, recordSize}
 use Rattle.events.specs.Receive.{recordOf}
 use Rattle.ledger.specs.Ledger.{OpenFile, Current, none, some, Line, isOpen, greatest, highest, least, lowest, sizeOf, openLine, closeLine, withCurrent, receivedLine, lostLine, notedLine, appendTo, dueFile, differsOne, differsFrom, exceedsWith, fullWith}
 use Rattle.ledger.specs.Agrees.{Formats, AgreesOpen, AgreesFile, AgreesLine}
@@ -374,7 +374,7 @@ module _ {store : List ℕ} {b : ℕ} {r : Route} {x : Line} (a : AgreesLine sto
   pub due-agrees : {f : OpenFile} → AgreesOpen store b r f → (t : ℕ) → due t r ≡ dueFile t x f
   due-agrees o t = λ i. (o .live i) && ltb 0 (a .settings i .age) && leb (o .opened i + a .settings i .age) t
 
-  -- with no file open nothing differs, exceeds or is due
+  -- with no file open nothing differs, exceeds or ends
   module _ (closed : x .current ≡ none) where
     pub differs-closed : (h : RecordHeader) → differs r h ≡ false
     differs-closed h = rw (line-closed a closed)
@@ -382,5 +382,5 @@ module _ {store : List ℕ} {b : ℕ} {r : Route} {x : Line} (a : AgreesLine sto
     pub exceeds-closed : (h : RecordHeader) (n : ℕ) → exceeds r h n ≡ false
     exceeds-closed h n = rw (line-closed a closed)
 
-    pub due-closed : (t : ℕ) → due t r ≡ false
-    due-closed t = rw (line-closed a closed)
+    pub ending-closed : (t : ℕ) (met : Bool) → ending t r met ≡ false
+    ending-closed t met = rw (line-closed a closed)

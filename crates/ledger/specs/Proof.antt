@@ -23,7 +23,7 @@ use Rattle.roundtrip.specs.Complete.{complete, handed-again}
 use Rattle.state.specs.declared.Route.{Route}
 use Rattle.state.specs.Manager.{Manager}
 use Rattle.state.specs.Manager.{routeAt, base}
-use Rattle.settings.specs.Settings.{routesIn, managerFrom, settled, verdict, freshOf}
+use Rattle.settings.specs.Settings.{routesIn, setsIn, managerFrom, settled, verdict, freshOf}
 use Rattle.settings.specs.Held.{fresh-held}
 use Rattle.words.specs.Words.{managerIn, wordsOf}
 use Rattle.words.specs.Laws.{count-in}
@@ -120,7 +120,7 @@ from-fresh step xs store es o e g =
     let l = ledgerFrom xs in
     let n = length store in
     let words = wordsOf m in
-    let w = runs step m store l es (fresh-agrees xs o e store) (fresh-held xs o (routesIn xs)) g in
+    let w = runs step m store l es (fresh-agrees xs o e store) (fresh-held xs o (routesIn xs) (setsIn xs)) g in
     let bs = booksOf l n es in
     let done = runOf words store es in
     let end = managerIn (endOf words store es) in

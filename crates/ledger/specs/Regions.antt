@@ -202,6 +202,7 @@ module _ {store : List ℕ} {m : Manager} {l : Ledger} (a : Agrees store m l) wh
         bias = a .bias;
         time = refl;
         unrouted = a .unrouted;
+        sets = a .sets;
         lines = λ j k. go j k (ℕ-discrete i j);
       }
     where
@@ -234,5 +235,6 @@ module _ {store : List ℕ} {m : Manager} {l : Ledger} (a : Agrees store m l) wh
         bias = a .bias;
         time = refl;
         unrouted = a .unrouted;
+        sets = a .sets;
         lines = λ j k. line-at (base-time m t j) refl refl (a .lines j k);
       }

@@ -7,7 +7,7 @@ use lib.ListN.{length}
 use Rattle.octets.specs.Number.{num, octetsAt}
 use Rattle.cdrfile.specs.File.{layout}
 use Rattle.state.specs.Manager.{Manager}
-use Rattle.settings.specs.Settings.{routesIn, routeStart, settingsFrom}
+use Rattle.settings.specs.Settings.{routesIn, setsIn, routeStart, settingsFrom, minutesOf}
 use Rattle.events.specs.declared.Answer.{Answer}
 use Rattle.events.specs.Events.{After, openOf, closeOf, tickOf}
 use Rattle.events.specs.Receive.{receiveOf}
@@ -87,6 +87,18 @@ abbrev pub linesFrom : List ℕ → ℕ → List Line
 linesFrom xs zero = []
 linesFrom xs (suc n) = linesFrom xs n ++ (lineFrom xs (routeStart n) ∷ [])
 
+-- each route's set minutes
+abbrev pub setsFrom : List ℕ → ℕ → List (List ℕ)
+setsFrom xs zero = []
+setsFrom xs (suc n) = setsFrom xs n ++ (minutesOf xs n (setsIn xs) ∷ [])
+
 abbrev pub ledgerFrom : List ℕ → Ledger
 ledgerFrom xs =
-    record { address = octetsAt 16 xs 1; bias = num 2 xs 17; time = 0; unrouted = 0; lines = linesFrom xs (routesIn xs) }
+    record {
+      address = octetsAt 16 xs 1;
+      bias = num 2 xs 17;
+      time = 0;
+      unrouted = 0;
+      sets = setsFrom xs (routesIn xs);
+      lines = linesFrom xs (routesIn xs);
+    }

@@ -1,7 +1,7 @@
 -- TICK: where a manager and its store agree with a ledger, both close the same files, in route order, and agree behind it
 -- (document 01, The events; The ledger of demand 3). Assumes nothing.
 use mathlib.Core.Path.{_≡_, refl, sym, ap, _∙_, subst}
-use mathlib.Core.Bool.{Bool, true, false, cond, _&&_}
+use mathlib.Core.Bool.{Bool, true, false, cond, _&&_, _||_}
 use mathlib.Core.List.{List, [], _∷_, _++_, append-assoc, append-nil}
 use Prim.Native.Nat.{ℕ, zero, suc, _+_, _≤_, _<_}
 use native.Mathlib.Omega.{arith}
@@ -15,17 +15,21 @@ use Rattle.roundtrip.specs.Described.{RightFile}
 use Rattle.state.specs.declared.Route.{Route}
 use Rattle.state.specs.Manager.{Manager}
 use Rattle.state.specs.Manager.{routeAt, settingsAt, base, effective, withRoute}
+use Rattle.state.specs.SetTimes.{set-within}
 use Rattle.state.specs.Bounds.{routeRight}
+use Rattle.state.specs.Within.{within}
 use Rattle.state.specs.Keep.{time-right}
-use Rattle.filing.specs.Closing.{closedSize}
+use Rattle.filing.specs.Closing.{closedFile, closedSize}
+use Rattle.events.specs.Met.{met}
 use Rattle.events.specs.Rules.{closedRoute, due}
-use Rattle.events.specs.Events.{answered, Run, closing, upTo, dueSize, tickRules, ticked, tickOf}
+use Rattle.events.specs.Events.{answered, metAt, ends, endReason, Run, upTo, dueSize, tickRules, ticked, tickOf}
 use Rattle.ledger.specs.Event.{TICK}
-use Rattle.ledger.specs.Ledger.{OpenFile, Current, none, some, Line, Ledger, lineAt, fileFrom, closeLine, withLine, Closing, Entry, lengths, dueFile, closeDue, tickTo, carried, neededBy, answerOf, entryOf}
+use Rattle.ledger.specs.Ledger.{OpenFile, Current, none, some, Line, Ledger, lineAt, fileFrom, closeLine, withLine, Closing, Entry, lengths, dueFile, oneCame, minutesAt, goesOn, endsWith, closeBy, closeDue, tickTo, carried, neededBy, answerOf, entryOf}
 use Rattle.ledger.specs.Ledger.{withTime as withBookTime, effective as bookTime}
 use Rattle.ledger.specs.Run.{happens, joined}
 use Rattle.ledger.specs.Agrees.{AgreesLine, Agrees}
-use Rattle.ledger.specs.Lines.{line-live, close-agrees, due-agrees, due-closed}
+use Rattle.ledger.specs.Came.{met-came}
+use Rattle.ledger.specs.Lines.{line-live, close-agrees, due-agrees, ending-closed}
 use Rattle.ledger.specs.Regions.{last-right, settings-right, route-other, line-other, agrees-with, agrees-time}
 use Rattle.ledger.specs.Refusals.{tick-refusal}
 use Rattle.ledger.specs.Steps.{AllRightFiles, Holds, answerAt, event-holds, common-passed, effective-right, time-same, state-kept}
@@ -78,9 +82,18 @@ module _ {store : List ℕ} {m : Manager} {l : Ledger} (a : Agrees store m l) wh
           right = h .right;
         }
 
-    module _ (f : OpenFile) (q : lineAt l n .current ≡ some f) where
+    -- the route's file closed, with a reason
+    abbrev shutting : ℕ → Run
+    shutting reason =
+        record {
+          manager = withRoute (u .manager) n (closedRoute (routeAt m n));
+          octets = u .octets ++ closedFile m store n reason;
+          files = u .files + 1;
+        }
+
+    module _ (f : OpenFile) (q : lineAt l n .current ≡ some f) (reason : ℕ) (small : reason < 256) where
       abbrev file : File
-      file = fileFrom l (lineAt l n) f 2
+      file = fileFrom l (lineAt l n) f reason
 
       abbrev shut : Line
       shut = closeLine (lineAt l n) file
@@ -105,7 +118,7 @@ module _ {store : List ℕ} {m : Manager} {l : Ledger} (a : Agrees store m l) wh
           (state-kept (h .agrees) n (closedRoute (routeAt m n)) (u .manager .last) there settings right (omega arith) (last-right (h .agrees)))
           (λ j low other. h .agrees .lines j low))
 
-      closes : Ticking store m l (suc n) (closing m store n u) on (size + closedSize (routeAt m n))
+      closes : Ticking store m l (suc n) (shutting reason) on (size + closedSize (routeAt m n))
       closes =
           record {
             agrees = close-keeps;
@@ -114,25 +127,33 @@ module _ {store : List ℕ} {m : Manager} {l : Ledger} (a : Agrees store m l) wh
             routes = λ j low. route-other (u .manager) n (closedRoute (routeAt m n)) j (λ z. omega arith) ∙ h .routes j (omega arith);
             lines = λ j low. line-other (e .ledger) n shut j (λ z. omega arith) ∙ h .lines j (omega arith);
             octets =
-                (λ j. h .octets j ++ file-same a n k f q 2 j)
+                (λ j. h .octets j ++ file-same a n k f q reason j)
                 ∙ sym (joined-snoc (e .closings) more);
             files = ap (λ (x : ℕ). x + 1) (h .files) ∙ sym (length-append (e .closings) (more ∷ []));
-            size = (λ j. h .size j + size-same a n k f q 2 j) ∙ sym (lengths-snoc (e .closings) more);
-            right = right-snoc (e .closings) more (h .right) (right-file a n k f q 2 (omega arith));
+            size = (λ j. h .size j + size-same a n k f q reason j) ∙ sym (lengths-snoc (e .closings) more);
+            right = right-snoc (e .closings) more (h .right) (right-file a n k f q reason small);
           }
 
-      by-due : (b : Bool) → Ticking store m l (suc n) (cond b (closing m store n u) u) (cond b on e) (size + cond b (closedSize (routeAt m n)) 0)
-      by-due true = closes
-      by-due false = quiet
+    abbrev Next : Bool → ℕ → Entry → Type 0
+    Next b reason d = Ticking store m l (suc n) (cond b (shutting reason) u) d (size + cond b (closedSize (routeAt m n)) 0)
 
-    abbrev Next : Bool → Entry → Type 0
-    Next b d = Ticking store m l (suc n) (cond b (closing m store n u) u) d (size + cond b (closedSize (routeAt m n)) 0)
+    -- by the two rules: the age, and a set minute
+    by-rules : (f : OpenFile) (q : lineAt l n .current ≡ some f) (old cut : Bool)
+        → Next (old || (true && cut)) (cond old 2 0) (closeBy (cond old (endsWith 2) (cond cut (endsWith 0) goesOn)) l n (lineAt l n) f e)
+    by-rules f q true cut = closes f q 2 (omega arith)
+    by-rules f q false true = closes f q 0 (omega arith)
+    by-rules f q false false = quiet
 
-    by-file : (c : Current) → lineAt l n .current ≡ c → Next (due t (routeAt m n)) (closeDue l t n (lineAt l n) c e)
-    by-file none q = subst (λ (b : Bool). Next b e) (sym (due-closed (a .lines n k) q t)) quiet
+    by-file : (c : Current) → lineAt l n .current ≡ c → Next (ends m t n) (endReason m t n) (closeDue l t n (lineAt l n) c e)
+    by-file none q = subst (λ (b : Bool). Next b (endReason m t n) e) (sym (ending-closed (a .lines n k) q t (metAt m t n))) quiet
     by-file (some f) q =
-        subst (λ (b : Bool). Next b (cond (dueFile t (lineAt l n) f) (on f q) e)) (sym (due-agrees (a .lines n k) (line-live (a .lines n k) q) t))
-        (by-due f q (dueFile t (lineAt l n) f))
+        let o = line-live (a .lines n k) q in
+        let old : due t (routeAt m n) ≡ dueFile t (lineAt l n) f = due-agrees (a .lines n k) o t in
+        let cut : metAt m t n ≡ oneCame (l .bias) (f .opened) t (minutesAt l n) =
+        (λ j. met (m .setTimes) n (a .bias j) (o .opened j) t) ∙ met-came (m .setTimes) n (minutesAt l n) (set-within (m .setTimes) (m .count) (within m (a .right) .sets) n k) (a .sets n k) (l .bias) (f .opened) t in
+        subst (λ (z : Bool × Bool × Bool). Next (z .0 || (z .1 && z .2)) (cond (z .0) 2 0) (closeDue l t n (lineAt l n) (some f) e))
+        (λ j. (sym old j, sym (o .live) j, sym cut j))
+        (by-rules f q (dueFile t (lineAt l n) f) (oneCame (l .bias) (f .opened) t (minutesAt l n)))
 
   -- the routes below n, at any time
   pub ticking : (t n : ℕ) → n ≤ m .count → Ticking store m l n (upTo m store t n) (tickTo l t n) (dueSize m t n)

@@ -28,7 +28,7 @@ use Rattle.ledger.specs.Steps.{Holds, state-kept}
 module _ (m : Manager) where
   -- the state with it counted on the routes below n
   abbrev notedTo : ℕ → Manager
-  notedTo n = record { routes = noted m n; count = m .count; address = m .address; bias = m .bias; last = m .last; unrouted = m .unrouted }
+  notedTo n = record { routes = noted m n; count = m .count; address = m .address; bias = m .bias; last = m .last; unrouted = m .unrouted; setTimes = m .setTimes }
 
   noted-length : (n : ℕ) → length (noted m n) ≡ length (m .routes)
   noted-length zero = refl
@@ -71,7 +71,7 @@ module _ {store : List ℕ} {m : Manager} {l : Ledger} (a : Agrees store m l) (o
   there = omega (arith, a .eight, few a)
 
   abbrev notedState : Manager
-  notedState = record { routes = noted m (m .count); count = m .count; address = m .address; bias = m .bias; last = t; unrouted = m .unrouted + 1 }
+  notedState = record { routes = noted m (m .count); count = m .count; address = m .address; bias = m .bias; last = t; unrouted = m .unrouted + 1; setTimes = m .setTimes }
 
   route-noted : (j : ℕ) → j < m .count → routeAt notedState j ≡ notedRoute (routeAt m j)
   route-noted j h = noted-at m (m .count) j h there
@@ -80,7 +80,7 @@ module _ {store : List ℕ} {m : Manager} {l : Ledger} (a : Agrees store m l) (o
   state-noted =
       let w = within m (a .right) in
       right-within notedState
-      (within-kept m notedState (noted-settings m (m .count)) w refl refl most (λ j h. rw (route-noted j h) (noted-within (route-later (w .routes j h) later))))
+      (within-kept m notedState (noted-settings m (m .count)) w refl refl refl most (λ j h. rw (route-noted j h) (noted-within (route-later (w .routes j h) later))))
 
   agrees-noted : Agrees store notedState (unroutes l t .ledger)
   agrees-noted =
@@ -94,6 +94,7 @@ module _ {store : List ℕ} {m : Manager} {l : Ledger} (a : Agrees store m l) (o
         bias = a .bias;
         time = refl;
         unrouted = ap (λ (n : ℕ). n + 1) (a .unrouted);
+        sets = a .sets;
         lines = λ j h. line-at (base-kept m notedState (noted-settings m (m .count)) j) (route-noted j h) (lines-at (l .lines) j (omega arith)) (noted-agrees (a .lines j h));
       }
 

@@ -108,7 +108,7 @@ module _ {store : List ℕ} {m : Manager} {l : Ledger} (a : Agrees store m l) wh
       let w = within m (a .right) in
       let there : i < length (m .routes) = omega (arith, a .eight, few a) in
       let n : Manager = withTime (withRoute m i r) t in
-      right-within n (within-kept m n (settings-kept m i r there same) w refl refl most (λ j k. go there j k (ℕ-discrete j i)))
+      right-within n (within-kept m n (settings-kept m i r there same) w refl refl refl most (λ j k. go there j k (ℕ-discrete j i)))
     where
       go : i < length (m .routes) → (j : ℕ) → j < m .count → Dec (j ≡ i) → RouteWithin t (routeAt (withRoute m i r) j)
       go there j k (yes p) = rw (p, route-set m i r there) (route-within t r right)

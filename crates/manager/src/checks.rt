@@ -7,7 +7,7 @@ ghost use Rattle.events.specs.Cases.{routeFirst};
 
 // The first of 18, 16, 4 and 6 that applies, or 0.
 pub fn route_refusal(words: &[u32], store: usize, time: u32, route: u32) -> u8
-    requires { ⌜ length (now words) ≡ 160 ⌝ }
+    requires { ⌜ length (now words) ≡ 360 ⌝ }
     ensures { λ r. ⌜ r ≡ first (routeFirst (managerIn (now (words .entry))) store time route) ⌝ }
 {
     let number = judging::common_refusal(words, store, time);

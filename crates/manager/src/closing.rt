@@ -24,7 +24,7 @@ fn is_allowed(reason: u32) -> bool
 
 // The first refusal of CLOSE but 17 that applies, or 0.
 fn close_refusal(words: &[u32], store: usize, time: u32, route: u32, reason: u32) -> u8
-    requires { ⌜ length (now words) ≡ 160 ⌝ }
+    requires { ⌜ length (now words) ≡ 360 ⌝ }
     ensures { λ r. ⌜ r ≡ first (closeFirst (managerIn (now (words .entry))) store time route reason) ⌝ }
 {
     let number = route_refusal(words, store, time, route);
@@ -48,7 +48,7 @@ pub fn close(
 ) -> Answer
     ensures { λ r. ⌜ left r (now (words .exit)) (now (store .exit)) (now (output .exit)) ≡ closeOn (now (words .entry)) (now (store .entry)) (now (output .entry)) time route reason ⌝ }
 {
-    if words.len() != 160 {
+    if words.len() != 360 {
         return refuse(18, 0);
     }
     let number = close_refusal(words, store.len(), time, route, reason);

@@ -15,7 +15,7 @@ use words::put;
 
 // The first refusal of OPEN that applies, or 0.
 fn open_refusal(words: &[u32], store: usize, time: u32, route: u32) -> u8
-    requires { ⌜ length (now words) ≡ 160 ⌝ }
+    requires { ⌜ length (now words) ≡ 360 ⌝ }
     ensures { λ r. ⌜ r ≡ first (openRules (managerIn (now (words .entry))) store time route) ⌝ }
 {
     let number = route_refusal(words, store, time, route);
@@ -30,7 +30,7 @@ fn open_refusal(words: &[u32], store: usize, time: u32, route: u32) -> u8
 pub fn open(words: &mut [u32], store: &mut [u8], output: &mut [u8], time: u32, route: u32) -> Answer
     ensures { λ r. ⌜ left r (now (words .exit)) (now (store .exit)) (now (output .exit)) ≡ openOn (now (words .entry)) (now (store .entry)) (now (output .entry)) time route ⌝ }
 {
-    if words.len() != 160 {
+    if words.len() != 360 {
         return refuse(18, 0);
     }
     let number = open_refusal(words, store.len(), time, route);

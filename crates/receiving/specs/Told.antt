@@ -39,14 +39,14 @@ toldWords o = told (o .answer) (wordsOf (o .manager))
 
 -- a route of the state's words, as it was read
 pub record ReadAt (xs : List ℕ) (i : ℕ) (r : Route) : Type 0 where
-  pub number : length xs ≡ 160
+  pub number : length xs ≡ 360
   pub there : i < 8
   pub route : r ≡ routeAt (managerIn xs) i
   pub opened : r .file .opened < 2147483648
 
 -- the state with an unrouted record counted on the routes below n
 abbrev pub notedTo : Manager → ℕ → Manager
-notedTo m n = record { routes = noted m n; count = m .count; address = m .address; bias = m .bias; last = m .last; unrouted = m .unrouted }
+notedTo m n = record { routes = noted m n; count = m .count; address = m .address; bias = m .bias; last = m .last; unrouted = m .unrouted; setTimes = m .setTimes }
 
 module _ (m : Manager) where
   noted-eight : (n : ℕ) → length (noted m n) ≡ length (m .routes)
@@ -61,10 +61,10 @@ module _ (m : Manager) where
 pub record Noting (zs : List ℕ) (n : ℕ) (xs : List ℕ) (i : ℕ) : Type 0 where
   pub below : i ≤ n
   pub words : xs ≡ wordsOf (notedTo (managerIn zs) i)
-  pub number : length xs ≡ 160
+  pub number : length xs ≡ 360
 
 module _ (zs : List ℕ) (n : ℕ) where
-  pub noting-begins : length zs ≡ 160 → Noting zs n zs 0
+  pub noting-begins : length zs ≡ 360 → Noting zs n zs 0
   noting-begins e = record { below = omega arith; words = sym (words-words zs e); number = e }
 
   module _ {xs : List ℕ} {i : ℕ} (v : Noting zs n xs i) (more : i < n) (few : n ≤ 8) where
@@ -103,7 +103,7 @@ module _ (zs : List ℕ) (n : ℕ) where
 
 -- and then the time and the count of unrouted records
 pub noted-words : (m : Manager) (t : ℕ) → set (set (wordsOf (notedTo m (m .count))) 6 t) 7 (m .unrouted + 1)
-    ≡ wordsOf (record { routes = noted m (m .count); count = m .count; address = m .address; bias = m .bias; last = t; unrouted = m .unrouted + 1 })
+    ≡ wordsOf (record { routes = noted m (m .count); count = m .count; address = m .address; bias = m .bias; last = t; unrouted = m .unrouted + 1; setTimes = m .setTimes })
 unfolding wordsOf
 noted-words m t = refl
 
@@ -128,7 +128,7 @@ module _ {xs : List ℕ} {i : ℕ} {r : Route} (at : ReadAt xs i r) (t : ℕ) wh
       ∙ ap (λ (b : Bool). toldWords (cond b (refused 19 0 m) (lostAt m [] [] t i .outcome))) (sym rises)
 
 -- And of an unrouted one: 19, or counted on every route and in all.
-module _ (xs : List ℕ) (number : length xs ≡ 160) (t : ℕ) where
+module _ (xs : List ℕ) (number : length xs ≡ 360) (t : ℕ) where
   pub unrouted-refused : unroutedFull (managerIn xs) ≡ true → {o : Answer} → o ≡ refusalOf 19 0 → told o xs ≡ toldWords (unroutedOr (managerIn xs) t)
   unrouted-refused z eo =
       let n = managerIn xs in
@@ -144,6 +144,6 @@ module _ (xs : List ℕ) (number : length xs ≡ 160) (t : ℕ) where
       ∙ ap (λ (b : Bool). toldWords (cond b (refused 19 0 n) (unrouted n [] [] t .outcome))) (sym z)
 
 -- What is told of such a record is a way out of the event.
-pub way-told : (xs store output : List ℕ) (event : Manager → After) → length xs ≡ 160 → {r : Answer} {ys : List ℕ} (o : Outcome) → told r ys ≡ toldWords o
+pub way-told : (xs store output : List ℕ) (event : Manager → After) → length xs ≡ 360 → {r : Answer} {ys : List ℕ} (o : Outcome) → told r ys ≡ toldWords o
     → after o store output ≡ event (managerIn xs) → left r ys store output ≡ lent xs store output event
 way-told xs store output event e o p q = (λ i. left (p i .answer) (p i .words) store output) ∙ right-number xs store output event e q

@@ -27,7 +27,7 @@ fn wrong_fields(a: Arrival, key: usize) -> bool
 
 // Where a record goes: mark 2 says that nothing is to be trusted.
 fn routed_to(words: &[u32], a: Arrival, key: &[u8]) -> Routed
-    requires { ⌜ (length (now words) ≡ 160) × Routable (managerIn (now words)) ⌝ }
+    requires { ⌜ (length (now words) ≡ 360) × Routable (managerIn (now words)) ⌝ }
     ensures { λ r. ⌜ r ≡ routedTo (managerIn (now (words .entry))) a (now (key .entry)) ⌝ }
 {
     if a.mark == 2 {
@@ -52,7 +52,7 @@ pub fn receive(
 ) -> Answer
     ensures { λ r. ⌜ left r (now (words .exit)) (now (store .exit)) (now (output .exit)) ≡ receiveOn (now (words .entry)) (now (store .entry)) (now (output .entry)) time a (now (key .entry)) (now (body .entry)) ⌝ }
 {
-    if words.len() != 160 {
+    if words.len() != 360 {
         return events::refuse(18, 0);
     }
     let number = judging::common_refusal(words, store.len(), time);

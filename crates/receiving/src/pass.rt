@@ -30,7 +30,7 @@ pub fn is_lost(s: RouteSettings, a: Arrival, body: usize) -> bool
 
 // Whether every route below n can count one more unrouted record. The count is word 11 of a route's.
 fn can_note(words: &[u32], n: usize) -> bool
-    requires { ⌜ (length (now words) ≡ 160) × (n ≤ 8) ⌝ }
+    requires { ⌜ (length (now words) ≡ 360) × (n ≤ 8) ⌝ }
     ensures { λ b. ⌜ b ≡ allBelow (canNote (managerIn (now (words .entry)))) n ⌝ }
 {
     let mut all = true;
@@ -44,7 +44,7 @@ fn can_note(words: &[u32], n: usize) -> bool
 
 // Counts an unrouted record on the routes below n, which can.
 fn note_routes(words: &mut [u32], n: usize)
-    requires { ⌜ (length (now words) ≡ 160) × (n ≤ 8) × (allBelow (canNote (managerIn (now words))) n ≡ true) ⌝ }
+    requires { ⌜ (length (now words) ≡ 360) × (n ≤ 8) × (allBelow (canNote (managerIn (now words))) n ≡ true) ⌝ }
     ensures { λ _. ⌜ now (words .exit) ≡ wordsOf (notedTo (managerIn (now (words .entry))) n) ⌝ }
 {
     let mut i: usize = 0;
@@ -57,7 +57,7 @@ fn note_routes(words: &mut [u32], n: usize)
 
 // An unrouted record is counted, by the manager and on every configured route. All counters are looked at before one rises.
 pub fn unrouted(words: &mut [u32], t: u32) -> Answer
-    requires { ⌜ (length (now words) ≡ 160) × (managerIn (now words) .count ≤ 8) ⌝ }
+    requires { ⌜ (length (now words) ≡ 360) × (managerIn (now words) .count ≤ 8) ⌝ }
     ensures { λ r. ⌜ told r (now (words .exit)) ≡ toldWords (unroutedOr (managerIn (now (words .entry))) t) ⌝ }
 {
     let unrouted = words[7];

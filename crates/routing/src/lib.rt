@@ -133,7 +133,7 @@ fn better_in(b: Routed, i: u8, part: &[u32], key: &[u8], five: &[u32; 5]) -> Rou
 
 // The route that a key goes to.
 pub fn route_of(words: &[u32], key: &[u8]) -> Routed
-    requires { ⌜ (length (now words) ≡ 160) × Routable (managerIn (now words)) ⌝ }
+    requires { ⌜ (length (now words) ≡ 360) × Routable (managerIn (now words)) ⌝ }
     ensures { λ r. ⌜ r ≡ routeOf (managerIn (now (words .entry))) (now (key .entry)) ⌝ }
 {
     let n = count_of(words);

@@ -14,7 +14,8 @@ use Rattle.state.specs.Manager.{noRelease, noRoute}
 use Rattle.state.specs.Bounds.{routeRight, rightAt, routesRight, distinct}
 use Rattle.words.specs.Words.{managerIn, wordsOf}
 use Rattle.words.specs.Laws.{HeldRelease, HeldRoute, Held, held-route, manager-words}
-use Rattle.settings.specs.Settings.{routesIn, routeStart, routeFrom, unusedRoute, routesFrom, managerFrom, inRangeAt, inRange, beyondRange}
+use Rattle.settings.specs.Settings.{routesIn, routeStart, routeFrom, unusedRoute, routesFrom, setTimesFrom, managerWith, managerFrom, inRangeAt, inRange, beyondRange}
+use Rattle.settings.specs.Cases.{sets-length}
 use Rattle.settings.specs.Accepted.{route-from}
 
 module _ (xs : List ℕ) (o : Octets xs) where
@@ -46,30 +47,31 @@ module _ (xs : List ℕ) (o : Octets xs) where
         low = none-held;
       }
 
-  routes-held : (n count : ℕ) → Held (record { routes = routesFrom xs n; count = count; address = octetsAt 16 xs 1; bias = num 2 xs 17; last = 0; unrouted = 0 })
-  routes-held zero count =
+  routes-held : (n count k : ℕ) → Held (record { routes = routesFrom xs n; count = count; address = octetsAt 16 xs 1; bias = num 2 xs 17; last = 0; unrouted = 0; setTimes = setTimesFrom xs k })
+  routes-held zero count k =
       record {
         eight = length-replicate 8 unusedRoute;
         routes = λ i h. subst HeldRoute (sym (getD-replicate 8 i unusedRoute noRoute h)) unused-held;
         address = (octetsAt-length 16 xs 1, octetsAt-octets 16 1 o);
+        sets = sets-length xs k;
       }
-  routes-held (suc n) count = held-route (routes-held n count) n (routeFrom xs (routeStart n)) (λ low. route-held (routeStart n))
+  routes-held (suc n) count k = held-route (routes-held n count k) n (routeFrom xs (routeStart n)) (λ low. route-held (routeStart n))
 
-  pub fresh-held : (n : ℕ) → Held (managerFrom xs n)
-  fresh-held n = routes-held n n
+  pub fresh-held : (n k : ℕ) → Held (managerWith xs n k)
+  fresh-held n k = routes-held n n k
 
 -- Its routes are closed and their settings are those of the octets, so they are right where these are in range.
-range-is : (xs : List ℕ) (n : ℕ) → n ≤ 8 → routesRight (managerFrom xs n) n ≡ inRange xs n
+range-is : (xs : List ℕ) (n : ℕ) → n ≤ 8 → routesRight (managerWith xs n 0) n ≡ inRange xs n
 range-is xs n few =
-    below-same (rightAt (managerFrom xs n)) (inRangeAt xs) n (λ i h. ap (routeRight 0) (route-from xs n i h few) ∙ and-true (inRangeAt xs i))
+    below-same (rightAt (managerWith xs n 0)) (inRangeAt xs) n (λ i h. ap (routeRight 0) (route-from xs n i h few) ∙ and-true (inRangeAt xs i))
 
 -- What is told of its words, whose routes are as many as the octets have.
 abbrev pub outOfRange : Manager → ℕ → Bool
 outOfRange m n = ltb 2878 (m .bias) || not (routesRight m n)
 
-module _ (xs : List ℕ) (o : Octets xs) (few : routesIn xs ≤ 8) {words : List ℕ} (e : words ≡ wordsOf (managerFrom xs (routesIn xs))) where
-  manager-is : managerIn words ≡ managerFrom xs (routesIn xs)
-  manager-is = ap managerIn e ∙ manager-words (managerFrom xs (routesIn xs)) (fresh-held xs o (routesIn xs))
+module _ (xs : List ℕ) (o : Octets xs) (few : routesIn xs ≤ 8) {words : List ℕ} (e : words ≡ wordsOf (managerWith xs (routesIn xs) 0)) where
+  manager-is : managerIn words ≡ managerWith xs (routesIn xs) 0
+  manager-is = ap managerIn e ∙ manager-words (managerWith xs (routesIn xs) 0) (fresh-held xs o (routesIn xs) 0)
 
   pub words-range : outOfRange (managerIn words) (routesIn xs) ≡ beyondRange xs
   unfolding beyondRange

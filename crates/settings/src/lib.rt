@@ -1,50 +1,74 @@
-// Settings octets to a fresh manager, or refusal 1, 2 or 3.
+// Settings octets to a fresh manager, or refusal 1, 2, 3 or 22.
+mod sets;
+
 ghost use mathlib.Core.Path.{_≡_};
 ghost use mathlib.Core.List.{[]};
-ghost use Prim.Native.Nat.{_+_, _≤_};
+ghost use Prim.Native.Nat.{_+_, _*_, _≤_};
 ghost use lib.ListN.{length};
 ghost use Rattle.octets.specs.Number.{octetsAt};
 ghost use Rattle.words.specs.Words.{fiveWords, routeWords, nodeWords, managerIn, wordsOf};
-ghost use Rattle.settings.specs.Settings.{kinds, wrongShape, routeFrom, nodeFrom, managerFrom, routeStart, worded, loadedOf};
+ghost use Rattle.refusals.specs.Below.{allBelow};
+ghost use Rattle.settings.specs.Settings.{routesIn, setStart, setKindAt, wrongShape, routeFrom, nodeFrom, managerWith, routeStart, worded, loadedOf};
 ghost use Rattle.settings.specs.Cases.{refusedFresh};
 ghost use Rattle.settings.specs.Held.{outOfRange};
+use sets::put_sets;
 
-// The answer: refusal 0 with a fresh manager's words; or 1, 2 or 3 with the words of the one state that every event answers with 18.
+// The answer: refusal 0 with a fresh manager's words; or 1, 2, 3 or 22 with the words of the one state that every event answers with 18.
 #[repr(C)]
 pub struct Loaded {
     pub refusal: u8,
-    pub words: [u32; 160],
+    pub words: [u32; 360],
 }
 
-// Whether the first `n` routes have kind 2.
-fn kinds_right(octets: &[u8], n: usize) -> bool
-    requires { ⌜ routeStart n ≤ length (now octets) ⌝ }
-    ensures { λ r. ⌜ r ≡ kinds (now (octets .entry)) n ⌝ }
+// How many routes stand one behind another, up to eight.
+fn routes_in(octets: &[u8]) -> usize
+    ensures { λ n. ⌜ (n ≡ routesIn (now (octets .entry))) × (n ≤ 8) ⌝ }
+{
+    let mut n: usize = 0;
+    while n < 8 {
+        let at = 19 + 41 * n;
+        if octets.len() <= at {
+            return n;
+        }
+        if octets[at] != 2 {
+            return n;
+        }
+        n += 1;
+    }
+    n
+}
+
+// Whether the first `k` set times behind `n` routes have kind 3.
+fn kinds_right(octets: &[u8], n: usize, k: usize) -> bool
+    requires { ⌜ (n ≡ routesIn (now octets)) × (n ≤ 8) × (setStart (now octets) k ≤ length (now octets)) ⌝ }
+    ensures { λ r. ⌜ r ≡ allBelow (setKindAt (now (octets .entry))) k ⌝ }
 {
     let mut right = true;
-    let mut i: usize = 0;
-    while i < n {
-        right = right & (octets[19 + 41 * i] == 2);
-        i += 1;
+    let mut j: usize = 0;
+    while j < k {
+        right = right & (octets[19 + 41 * n + 4 * j] == 3);
+        j += 1;
     }
     right
 }
 
 // Refusal 1: unknown kind, cut, wrong order or count.
-fn wrong_shape(octets: &[u8]) -> bool
+fn wrong_shape(octets: &[u8], n: usize) -> bool
+    requires { ⌜ (n ≡ routesIn (now octets)) × (n ≤ 8) ⌝ }
     ensures { λ r. ⌜ r ≡ wrongShape (now (octets .entry)) ⌝ }
 {
-    if octets.len() < 60 {
+    if n == 0 {
         return true;
     }
-    let n = (octets.len() - 19) / 41;
-    if octets.len() != 19 + 41 * n {
+    let at = 19 + 41 * n;
+    if octets.len() < at {
         return true;
     }
-    if 8 < n {
+    let k = (octets.len() - at) / 4;
+    if octets.len() != at + 4 * k {
         return true;
     }
-    let right = kinds_right(octets, n);
+    let right = kinds_right(octets, n, k);
     !(octets[0] == 1) | !right
 }
 
@@ -111,12 +135,12 @@ fn node_words(octets: &[u8], count: u32) -> [u32; 6]
     [a, b, c, d, bias, count]
 }
 
-// The words of the fresh manager of `n` routes.
-fn words_from(octets: &[u8], n: usize) -> [u32; 160]
+// The words of the fresh manager of `n` routes, without set times.
+fn words_from(octets: &[u8], n: usize) -> [u32; 360]
     requires { ⌜ (n ≤ 8) × (routeStart n ≤ length (now octets)) ⌝ }
-    ensures { λ r. ⌜ r ≡ wordsOf (managerFrom (now (octets .entry)) n) ⌝ }
+    ensures { λ r. ⌜ r ≡ wordsOf (managerWith (now (octets .entry)) n 0) ⌝ }
 {
-    let mut words = [0u32; 160];
+    let mut words = [0u32; 360];
     let mut i: usize = 0;
     while i < n {
         let route = route_words(octets, 19 + 41 * i);
@@ -130,7 +154,7 @@ fn words_from(octets: &[u8], n: usize) -> [u32; 160]
 
 // Refusal 2, by the words of `n` routes: a value beyond its range.
 fn beyond_range(words: &[u32], n: usize) -> bool
-    requires { ⌜ (length (now words) ≡ 160) × (n ≤ 8) ⌝ }
+    requires { ⌜ (length (now words) ≡ 360) × (n ≤ 8) ⌝ }
     ensures { λ r. ⌜ r ≡ outOfRange (managerIn (now (words .entry))) n ⌝ }
 {
     let right = judging::routes_right(words, n);
@@ -143,24 +167,28 @@ fn refused(number: u8) -> Loaded
 {
     Loaded {
         refusal: number,
-        words: [0u32; 160],
+        words: [0u32; 360],
     }
 }
 
-// A fresh manager from any octets, or the first of 1 to 3 in order. Its words are made first: 2 and 3 are told by what tells 18.
+// A fresh manager from any octets, or the first of 1, 2, 3 and 22 in order. Its words are made first: 2 and 3 are told by what tells 18.
 pub fn load(octets: &[u8]) -> Loaded
     ensures { λ r. ⌜ r ≡ loadedOf (now (octets .entry)) ⌝ }
 {
-    if wrong_shape(octets) {
+    let n = routes_in(octets);
+    if wrong_shape(octets, n) {
         return refused(1);
     }
-    let n = (octets.len() - 19) / 41;
-    let words = words_from(octets, n);
+    let mut words = words_from(octets, n);
     if beyond_range(&words, n) {
         return refused(2);
     }
     if !judging::are_distinct(&words, n) {
         return refused(3);
+    }
+    let k = (octets.len() - (19 + 41 * n)) / 4;
+    if !put_sets(octets, n, k, &mut words) {
+        return refused(22);
     }
     Loaded {
         refusal: 0,

@@ -1,6 +1,6 @@
--- Refusal 18 (document 01, Refusals): which states are within their bounds. Routes beyond the configured number, a closed
--- route's file fields and the store's content are not judged. It is loose on purpose: every call is total on what passes, and
--- equals its definition there, reachable or not. Assumes nothing.
+-- Refusal 18 (document 01, Refusals; document 02, ask 6): which states are within their bounds. Routes beyond the configured number, a
+-- closed route's file fields, the set minutes beyond a route's number of them and the store's content are not judged. It is loose on
+-- purpose: every call is total on what passes, and equals its definition there, reachable or not. Assumes nothing.
 use mathlib.Core.Bool.{Bool, not, _&&_, _||_}
 use mathlib.Core.List.{List, [], _∷_}
 use Prim.Native.Nat.{ℕ, _+_, _*_}
@@ -16,6 +16,7 @@ use Rattle.state.specs.declared.OpenFile.{OpenFile}
 use Rattle.state.specs.declared.Route.{Route}
 use Rattle.state.specs.Manager.{Manager}
 use Rattle.state.specs.Manager.{routeAt, settingsAt}
+use Rattle.state.specs.SetTimes.{setsRight}
 use Rattle.state.specs.Size.{headerSize}
 
 -- the octets of the filter from n on, up to its k-th, are 0
@@ -96,4 +97,10 @@ routesRight m n = allBelow (rightAt m) n
 
 unfoldable pub stateRight : Manager → Bool
 stateRight m =
-    leb 1 (m .count) && leb (m .count) 8 && leb (m .bias) 2878 && leb (m .last) 52595999 && routesRight m (m .count) && distinct m (m .count)
+    leb 1 (m .count)
+    && leb (m .count) 8
+    && leb (m .bias) 2878
+    && leb (m .last) 52595999
+    && routesRight m (m .count)
+    && distinct m (m .count)
+    && setsRight (m .setTimes) (m .count)

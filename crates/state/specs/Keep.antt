@@ -15,6 +15,7 @@ use Rattle.state.specs.declared.OpenFile.{OpenFile}
 use Rattle.state.specs.declared.Route.{Route}
 use Rattle.state.specs.Manager.{Manager}
 use Rattle.state.specs.Manager.{noRoute, routeAt, settingsAt, base, withRoute, withTime}
+use Rattle.state.specs.SetTimes.{setsRight}
 use Rattle.state.specs.Routing.{better, among}
 use Rattle.state.specs.Bounds.{sameFilter, otherAt, newAt, distinct, fileRight, routeRight, stateRight}
 use Rattle.state.specs.Within.{FileWithin, file-within, within-file, RouteWithin, route-within, Within, within, right-within}
@@ -39,9 +40,9 @@ module _ (m m′ : Manager) (same : (j : ℕ) → settingsAt m′ j ≡ settings
   distinct-kept n = below-same (newAt m′) (newAt m) n (λ i h. new-kept i)
 
   -- a state whose routes are right stays within its bounds with the other's number of routes, offset and settings
-  pub within-kept : Within m → m′ .count ≡ m .count → m′ .bias ≡ m .bias → m′ .last ≤ 52595999
+  pub within-kept : Within m → m′ .count ≡ m .count → m′ .bias ≡ m .bias → m′ .setTimes ≡ m .setTimes → m′ .last ≤ 52595999
       → ((i : ℕ) → i < m .count → RouteWithin (m′ .last) (routeAt m′ i)) → Within m′
-  within-kept w count bias last routes =
+  within-kept w count bias sets last routes =
       record {
         some = omega (arith, w .some);
         few = omega (arith, w .few);
@@ -49,6 +50,7 @@ module _ (m m′ : Manager) (same : (j : ℕ) → settingsAt m′ j ≡ settings
         last = last;
         routes = λ i h. routes i (omega arith);
         differ = distinct-kept (m′ .count) ∙ ap (distinct m) count ∙ w .differ;
+        sets = (λ i. setsRight (sets i) (count i)) ∙ w .sets;
       }
 
 -- a file stays right at a later time
@@ -81,7 +83,7 @@ route-later w h = record { settings = w .settings; file = λ p. file-later (w .f
 pub time-right : (m : Manager) (t : ℕ) → stateRight m ≡ true → m .last ≤ t → t ≤ 52595999 → stateRight (withTime m t) ≡ true
 time-right m t e h most =
     let w = within m e in
-    right-within (withTime m t) (within-kept m (withTime m t) (λ j. refl) w refl refl most (λ i l. route-later (w .routes i l) h))
+    right-within (withTime m t) (within-kept m (withTime m t) (λ j. refl) w refl refl refl most (λ i l. route-later (w .routes i l) h))
 
 -- a route replaced by one with the same settings
 module _ (m : Manager) (i : ℕ) (r : Route) (there : i < length (m .routes)) where
@@ -102,7 +104,7 @@ module _ (m : Manager) (i : ℕ) (r : Route) (there : i < length (m .routes)) wh
     pub route-right : stateRight m ≡ true → routeRight (m .last) r ≡ true → stateRight (withRoute m i r) ≡ true
     route-right e right =
         let w = within m e in
-        right-within (withRoute m i r) (within-kept m (withRoute m i r) settings-kept w refl refl (w .last) (λ j l. go w j l (ℕ-discrete j i)))
+        right-within (withRoute m i r) (within-kept m (withRoute m i r) settings-kept w refl refl refl (w .last) (λ j l. go w j l (ℕ-discrete j i)))
       where
         go : Within m → (j : ℕ) → j < m .count → Dec (j ≡ i) → RouteWithin (m .last) (routeAt (withRoute m i r) j)
         go w j l (yes p) = rw (p, route-set) (route-within (m .last) r right)

@@ -1,4 +1,5 @@
 pub mod Manager
+pub mod SetTimes
 pub mod Size
 pub mod Loss
 pub mod Routing

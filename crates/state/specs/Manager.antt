@@ -11,7 +11,7 @@ use Rattle.state.specs.declared.Route.{Route}
 use Rattle.state.specs.declared.Node.{Node}
 
 -- the manager: up to eight routes of which `count` are configured, the node's address and UTC offset plus 1,439, the effective time of
--- the last accepted event, and the number of unrouted records since fresh
+-- the last accepted event, the number of unrouted records since fresh, and the routes' set minutes (SetTimes)
 pub record Manager : Type 0 where
   pub routes : List Route
   pub count : ℕ
@@ -19,6 +19,7 @@ pub record Manager : Type 0 where
   pub bias : ℕ
   pub last : ℕ
   pub unrouted : ℕ
+  pub setTimes : List ℕ
 
 abbrev pub noRelease : Release
 noRelease = record { release = 0; extension = 0; version = 0 }
@@ -68,8 +69,8 @@ effective m time = max (m .last) time
 -- the state with a route, and with a time, changed
 abbrev pub withRoute : Manager → ℕ → Route → Manager
 withRoute m i r =
-    record { routes = set (m .routes) i r; count = m .count; address = m .address; bias = m .bias; last = m .last; unrouted = m .unrouted }
+    record { routes = set (m .routes) i r; count = m .count; address = m .address; bias = m .bias; last = m .last; unrouted = m .unrouted; setTimes = m .setTimes }
 
 abbrev pub withTime : Manager → ℕ → Manager
 withTime m t =
-    record { routes = m .routes; count = m .count; address = m .address; bias = m .bias; last = t; unrouted = m .unrouted }
+    record { routes = m .routes; count = m .count; address = m .address; bias = m .bias; last = t; unrouted = m .unrouted; setTimes = m .setTimes }

@@ -13,6 +13,7 @@ use Rattle.state.specs.declared.OpenFile.{OpenFile}
 use Rattle.state.specs.declared.Route.{Route}
 use Rattle.state.specs.Manager.{Manager}
 use Rattle.state.specs.Manager.{routeAt}
+use Rattle.state.specs.SetTimes.{setsRight}
 use Rattle.state.specs.Size.{headerSize}
 use Rattle.state.specs.Routing.{Routable}
 use Rattle.state.specs.Bounds.{zeroFrom, settingsTests, settingsRight, distinct, sameRelease, fileTests, fileRight, routeRight, rightAt, routesRight, stateRight}
@@ -148,11 +149,13 @@ pub record Within (m : Manager) : Type 0 where
   pub last : m .last ≤ 52595999
   pub routes : (i : ℕ) → i < m .count → RouteWithin (m .last) (routeAt m i)
   pub differ : distinct m (m .count) ≡ true
+  pub sets : setsRight (m .setTimes) (m .count) ≡ true
 
 pub within : (m : Manager) → stateRight m ≡ true → Within m
 unfolding stateRight
 within m e =
-    let d = both (leb 1 (m .count) && leb (m .count) 8 && leb (m .bias) 2878 && leb (m .last) 52595999 && routesRight m (m .count)) (distinct m (m .count)) e in
+    let s = both (leb 1 (m .count) && leb (m .count) 8 && leb (m .bias) 2878 && leb (m .last) 52595999 && routesRight m (m .count) && distinct m (m .count)) (setsRight (m .setTimes) (m .count)) e in
+    let d = both (leb 1 (m .count) && leb (m .count) 8 && leb (m .bias) 2878 && leb (m .last) 52595999 && routesRight m (m .count)) (distinct m (m .count)) (s .0) in
     let r = both (leb 1 (m .count) && leb (m .count) 8 && leb (m .bias) 2878 && leb (m .last) 52595999) (routesRight m (m .count)) (d .0) in
     let l = both (leb 1 (m .count) && leb (m .count) 8 && leb (m .bias) 2878) (leb (m .last) 52595999) (r .0) in
     let b = both (leb 1 (m .count) && leb (m .count) 8) (leb (m .bias) 2878) (l .0) in
@@ -164,6 +167,7 @@ within m e =
       last = leb-true _ _ (l .1);
       routes = routes-within m (m .count) (r .1);
       differ = d .1;
+      sets = s .1;
     }
 
 pub right-within : (m : Manager) → Within m → stateRight m ≡ true
@@ -171,9 +175,11 @@ unfolding stateRight
 right-within m w =
     and-holds
     (and-holds
+    (and-holds
     (and-holds (and-holds (and-holds (le-leb _ _ (w .some)) (le-leb _ _ (w .few))) (le-leb _ _ (w .bias))) (le-leb _ _ (w .last)))
     (within-routes m (m .count) (w .routes)))
-    (w .differ)
+    (w .differ))
+    (w .sets)
 
 -- such a state's filters can be compared
 pub routable : {m : Manager} → Within m → Routable m

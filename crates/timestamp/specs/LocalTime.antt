@@ -2,8 +2,9 @@
 -- Minutes count from 2000-01-01 00:00 UTC, 0 to 52,595,999. The offset is carried as `bias`, the offset and 1,439, as the settings of document 01 carry it: 0 to 2,878.
 -- So local time counts from 1999-12-31 00:00, and no number is negative. Stricter than the standard: offset 0 is written with plus, where that leaves the sign free.
 -- Assumes nothing.
+use mathlib.Core.Path.{_≡_}
 use mathlib.Core.Bool.{Bool, true, false, cond}
-use Prim.Native.Nat.{ℕ, _+_, _-_, _/_, _%_, _^_, _<_}
+use Prim.Native.Nat.{ℕ, _+_, _*_, _-_, _/_, _%_, _^_, _<_}
 use native.Mathlib.Omega.{arith}
 use lib.Dec.{leb, lit<}
 use Rattle.calendar.specs.Calendar.{dateOf}
@@ -30,6 +31,11 @@ timestampOf minutes bias =
       «dev_hour» = deviation bias / 60;
       «dev_minute» = deviation bias % 60;
     }
+
+-- its hour and minute are the minute of the local day
+pub local-minute : (minutes bias : ℕ) → timestampOf minutes bias .hour * 60 + timestampOf minutes bias .minute ≡ localTime minutes bias % 1440
+unfolding timestampOf
+local-minute minutes bias = omega arith
 
 sign-lt : (t : Bool) → cond t 1 0 < 2
 sign-lt true = lit< tt

@@ -1,4 +1,4 @@
--- Words and the state that they stand for determine each other (Words): of any 160 words the state's words are these again, and of any
+-- Words and the state that they stand for determine each other (Words): of any 360 words the state's words are these again, and of any
 -- state whose packed fields have room the words' state is that state. What an event changes of a route is one splice.
 -- Assumes nothing.
 use mathlib.Core.Path.{_≡_, refl, sym, ap, _∙_, subst}
@@ -102,14 +102,18 @@ words-route xs h =
     ∷ drop 19 xs)
     ∙ octets-at 19 xs 0 (omega arith)
 
-pub words-routes : (n : ℕ) (xs : List ℕ) → length xs ≡ 19 * n → routesWords (routesIn xs n) ≡ xs
-words-routes zero [] e = refl
-words-routes zero (x ∷ xs) e = absurd (omega arith)
+-- n routes on
+further : (n : ℕ) (xs : List ℕ) → drop (19 * n) (drop 19 xs) ≡ drop (19 * suc n) xs
+further n xs = let e : 19 + 19 * n ≡ 19 * suc n = omega arith in drop-drop (19 * n) 19 xs ∙ ap (λ (k : ℕ). drop k xs) e
+
+pub words-routes : (n : ℕ) (xs : List ℕ) → 19 * n ≤ length xs → routesWords (routesIn xs n) (drop (19 * n) xs) ≡ xs
+words-routes zero xs e = refl
 words-routes (suc n) xs e =
-    ap (routeWords (routeIn xs)) (words-routes n (drop 19 xs) (omega (arith, length-drop 19 xs)))
+    ap (λ (l : List ℕ). routeWords (routeIn xs) (routesWords (routesIn (drop 19 xs) n) l)) (sym (further n xs))
+    ∙ ap (routeWords (routeIn xs)) (words-routes n (drop 19 xs) (omega (arith, length-drop 19 xs)))
     ∙ words-route xs (omega arith)
 
-pub words-words : (xs : List ℕ) → length xs ≡ 160 → wordsOf (managerIn xs) ≡ xs
+pub words-words : (xs : List ℕ) → length xs ≡ 360 → wordsOf (managerIn xs) ≡ xs
 unfolding wordsOf managerIn
 words-words xs e =
     (λ i.
@@ -121,17 +125,17 @@ words-words xs e =
     ∷ getD xs 5 0
     ∷ getD xs 6 0
     ∷ getD xs 7 0
-    ∷ words-routes 8 (drop 8 xs) (omega (arith, length-drop 8 xs)) i)
+    ∷ (ap (routesWords (routesIn (drop 8 xs) 8)) (sym (drop-drop 152 8 xs)) ∙ words-routes 8 (drop 8 xs) (omega (arith, length-drop 8 xs))) i)
     ∙ octets-at 8 xs 0 (omega arith)
 
--- A state of eight routes has 160 words.
-routes-length : (rs : List Route) → length (routesWords rs) ≡ 19 * length rs
-routes-length [] = refl
-routes-length (r ∷ rs) = omega (arith, routes-length rs)
+-- A state of eight routes, and of 200 numbers for their set minutes, has 360 words.
+routes-length : (rs : List Route) (rest : List ℕ) → length (routesWords rs rest) ≡ 19 * length rs + length rest
+routes-length [] rest = omega arith
+routes-length (r ∷ rs) rest = omega (arith, routes-length rs rest)
 
-pub words-length : (m : Manager) → length (m .routes) ≡ 8 → length (wordsOf m) ≡ 160
+pub words-length : (m : Manager) → length (m .routes) ≡ 8 → length (m .setTimes) ≡ 200 → length (wordsOf m) ≡ 360
 unfolding wordsOf
-words-length m e = omega (arith, routes-length (m .routes), e)
+words-length m e s = omega (arith, routes-length (m .routes) (m .setTimes), e, s)
 
 -- The number of routes is a word.
 pub count-in : (m : Manager) → managerIn (wordsOf m) .count ≡ m .count
@@ -155,6 +159,7 @@ pub record Held (m : Manager) : Type 0 where
   pub eight : length (m .routes) ≡ 8
   pub routes : (i : ℕ) → i < 8 → HeldRoute (routeAt m i)
   pub address : (length (m .address) ≡ 16) × Octets (m .address)
+  pub sets : length (m .setTimes) ≡ 200
 
 -- With another route it has room still, if that has; of a route that is not there nothing changes.
 module _ {m : Manager} (h : Held m) where
@@ -164,6 +169,7 @@ module _ {m : Manager} (h : Held m) where
         eight = length-set (m .routes) i r ∙ h .eight;
         routes = λ j low. go j low (ℕ-discrete j i);
         address = h .address;
+        sets = h .sets;
       }
     where
       go : (j : ℕ) → j < 8 → Dec (j ≡ i) → HeldRoute (routeAt (withRoute m i r) j)
@@ -244,20 +250,34 @@ route-words r rest h =
           };
     }
 
-pub routes-words : (rs : List Route) → ((i : ℕ) → i < length rs → HeldRoute (getD rs i noRoute)) → routesIn (routesWords rs) (length rs) ≡ rs
-routes-words [] h = refl
-routes-words (r ∷ rs) h = λ i. route-words r (routesWords rs) (h 0 (omega arith)) i ∷ routes-words rs (λ j l. h (suc j) (omega arith)) i
+pub routes-words : (rs : List Route) (rest : List ℕ) → ((i : ℕ) → i < length rs → HeldRoute (getD rs i noRoute))
+    → routesIn (routesWords rs rest) (length rs) ≡ rs
+routes-words [] rest h = refl
+routes-words (r ∷ rs) rest h = λ i. route-words r (routesWords rs rest) (h 0 (omega arith)) i ∷ routes-words rs rest (λ j l. h (suc j) (omega arith)) i
+
+-- what stands behind the routes
+behind-routes : (rs : List Route) (rest : List ℕ) → drop (19 * length rs) (routesWords rs rest) ≡ rest
+behind-routes [] rest = refl
+behind-routes (r ∷ rs) rest = sym (further (length rs) (routeWords r (routesWords rs rest))) ∙ behind-routes rs rest
+
+pub sets-in : (m : Manager) → length (m .routes) ≡ 8 → managerIn (wordsOf m) .setTimes ≡ m .setTimes
+unfolding wordsOf managerIn
+sets-in m e = ap (λ (n : ℕ). drop (19 * n) (routesWords (m .routes) (m .setTimes))) (sym e) ∙ behind-routes (m .routes) (m .setTimes)
 
 pub manager-words : (m : Manager) → Held m → managerIn (wordsOf m) ≡ m
 unfolding wordsOf managerIn
 manager-words m h =
     λ i. record {
-      routes = (ap (routesIn (routesWords (m .routes))) (sym (h .eight)) ∙ routes-words (m .routes) (λ j l. h .routes j (omega (arith, h .eight)))) i;
+      routes =
+          (ap (routesIn (routesWords (m .routes) (m .setTimes))) (sym (h .eight))
+          ∙ routes-words (m .routes) (m .setTimes) (λ j l. h .routes j (omega (arith, h .eight))))
+          i;
       count = m .count;
       address = address-packed (m .address) (h .address .0) (h .address .1) i;
       bias = m .bias;
       last = m .last;
       unrouted = m .unrouted;
+      setTimes = sets-in m (h .eight) i;
     }
 
 -- Words stand for eight routes.
@@ -273,10 +293,7 @@ routes-eight xs = routes-count (drop 8 xs) 8
 pub route-at : (n : ℕ) (xs : List ℕ) (i : ℕ) → i < n → getD (routesIn xs n) i noRoute ≡ routeIn (drop (19 * i) xs)
 route-at zero xs i h = absurd (omega arith)
 route-at (suc n) xs zero h = refl
-route-at (suc n) xs (suc i) h = route-at n (drop 19 xs) i (omega arith) ∙ ap routeIn (further i)
-  where
-    further : (i : ℕ) → drop (19 * i) (drop 19 xs) ≡ drop (19 * suc i) xs
-    further i = let e : 19 + 19 * i ≡ 19 * suc i = omega arith in drop-drop (19 * i) 19 xs ∙ ap (λ (k : ℕ). drop k xs) e
+route-at (suc n) xs (suc i) h = route-at n (drop 19 xs) i (omega arith) ∙ ap routeIn (further i xs)
 
 pub route-in : (xs : List ℕ) (i : ℕ) → i < 8 → routeAt (managerIn xs) i ≡ routeIn (drop (8 + 19 * i) xs)
 unfolding managerIn
@@ -295,16 +312,16 @@ splice-past (p ∷ ps) xs n ys =
     ∙ ap (λ (l : List ℕ). p ∷ l) (splice-past ps xs n ys)
 
 -- What an event changes of a route is a splice of ten words.
-changed-routes : (rs : List Route) (i : ℕ) (r : Route) → i < length rs → r .settings ≡ getD rs i noRoute .settings
-    → routesWords (set rs i r) ≡ splice (routesWords rs) (19 * i + 9) (changingWords r [])
+changed-routes : (rs : List Route) (rest : List ℕ) (i : ℕ) (r : Route) → i < length rs → r .settings ≡ getD rs i noRoute .settings
+    → routesWords (set rs i r) rest ≡ splice (routesWords rs rest) (19 * i + 9) (changingWords r [])
 unfolding splice
-changed-routes [] i r h e = absurd (omega arith)
-changed-routes (q ∷ qs) zero r h e = ap (λ (s : RouteSettings). fixedWords s (changingWords r (routesWords qs))) e
-changed-routes (q ∷ qs) (suc i) r h e =
+changed-routes [] rest i r h e = absurd (omega arith)
+changed-routes (q ∷ qs) rest zero r h e = ap (λ (s : RouteSettings). fixedWords s (changingWords r (routesWords qs rest))) e
+changed-routes (q ∷ qs) rest (suc i) r h e =
     let k : 19 + (19 * i + 9) ≡ 19 * suc i + 9 = omega arith in
-    ap (routeWords q) (changed-routes qs i r (omega arith) e)
-    ∙ sym (splice-past (routeWords q []) (routesWords qs) (19 * i + 9) (changingWords r []))
-    ∙ ap (λ (j : ℕ). splice (routesWords (q ∷ qs)) j (changingWords r [])) k
+    ap (routeWords q) (changed-routes qs rest i r (omega arith) e)
+    ∙ sym (splice-past (routeWords q []) (routesWords qs rest) (19 * i + 9) (changingWords r []))
+    ∙ ap (λ (j : ℕ). splice (routesWords (q ∷ qs) rest) j (changingWords r [])) k
 
 pub changed-words : (m : Manager) (i : ℕ) (r : Route) → i < length (m .routes) → r .settings ≡ settingsAt m i
     → wordsOf (withRoute m i r) ≡ splice (wordsOf m) (17 + 19 * i) (changingWords r [])
@@ -312,9 +329,9 @@ unfolding wordsOf
 changed-words m i r h e =
     let head : List ℕ = nodeWords (nodeOf m) (m .count) (m .last ∷ m .unrouted ∷ []) in
     let k : 8 + (19 * i + 9) ≡ 17 + 19 * i = omega arith in
-    ap (λ (l : List ℕ). head ++ l) (changed-routes (m .routes) i r h e)
-    ∙ sym (splice-past head (routesWords (m .routes)) (19 * i + 9) (changingWords r []))
-    ∙ ap (λ (j : ℕ). splice (head ++ routesWords (m .routes)) j (changingWords r [])) k
+    ap (λ (l : List ℕ). head ++ l) (changed-routes (m .routes) (m .setTimes) i r h e)
+    ∙ sym (splice-past head (routesWords (m .routes) (m .setTimes)) (19 * i + 9) (changingWords r []))
+    ∙ ap (λ (j : ℕ). splice (head ++ routesWords (m .routes) (m .setTimes)) j (changingWords r [])) k
 
 -- The last time is the seventh word.
 pub timed-words : (m : Manager) (t : ℕ) → wordsOf (withTime m t) ≡ set (wordsOf m) 6 t
@@ -379,7 +396,7 @@ same-words xs ys p q =
     λ i. eqb (p i) (q i) && same-fives (getD xs 0 0) (getD xs 1 0) (getD xs 2 0) (getD xs 3 0) (getD xs 4 0) (getD ys 0 0) (getD ys 1 0) (getD ys 2 0) (getD ys 3 0) (getD ys 4 0) i
 
 -- All that an event leaves of one route and the time.
-pub left-words : (xs : List ℕ) → length xs ≡ 160 → (i : ℕ) → i < 8 → (r : Route) → r .settings ≡ settingsAt (managerIn xs) i → (t : ℕ)
+pub left-words : (xs : List ℕ) → length xs ≡ 360 → (i : ℕ) → i < 8 → (r : Route) → r .settings ≡ settingsAt (managerIn xs) i → (t : ℕ)
     → set (splice xs (17 + 19 * i) (changingWords r [])) 6 t ≡ wordsOf (withTime (withRoute (managerIn xs) i r) t)
 left-words xs e i h r s t =
     let m = managerIn xs in
@@ -398,6 +415,17 @@ module _ (xs zs : List ℕ) (i : ℕ) (same : drop (8 + 19 * i) xs ≡ drop (8 +
   pub route-still : i < 8 → routeAt (managerIn xs) i ≡ routeAt (managerIn zs) i
   route-still h = route-in xs i h ∙ ap routeIn same ∙ sym (route-in zs i h)
 
+  -- and with it all that stands behind the routes
+  pub sets-still : i ≤ 8 → managerIn xs .setTimes ≡ managerIn zs .setTimes
+  unfolding managerIn
+  sets-still h =
+      let e : 8 + 19 * i + (152 - 19 * i) ≡ 160 = omega arith in
+      ap (λ (k : ℕ). drop k xs) (sym e)
+      ∙ sym (drop-drop (152 - 19 * i) (8 + 19 * i) xs)
+      ∙ ap (drop (152 - 19 * i)) same
+      ∙ drop-drop (152 - 19 * i) (8 + 19 * i) zs
+      ∙ ap (λ (k : ℕ). drop k zs) e
+
   pub next-still : drop (8 + 19 * (i + 1)) xs ≡ drop (8 + 19 * (i + 1)) zs
   next-still =
       let e : 8 + 19 * i + 19 ≡ 8 + 19 * (i + 1) = omega arith in
@@ -408,8 +436,8 @@ module _ (xs zs : List ℕ) (i : ℕ) (same : drop (8 + 19 * i) xs ≡ drop (8 +
       ∙ ap (λ (k : ℕ). drop k zs) e
 
   -- a change of the route i leaves the number of words, and those behind it
-  module _ (number : length xs ≡ 160) (h : i < 8) (r : Route) where
-    pub put-number : length (splice xs (17 + 19 * i) (changingWords r [])) ≡ 160
+  module _ (number : length xs ≡ 360) (h : i < 8) (r : Route) where
+    pub put-number : length (splice xs (17 + 19 * i) (changingWords r [])) ≡ 360
     put-number =
         let room : 17 + 19 * i + 10 ≤ length xs = omega arith in
         splice-length xs (17 + 19 * i) (changingWords r []) room ∙ number
@@ -420,24 +448,26 @@ module _ (xs zs : List ℕ) (i : ℕ) (same : drop (8 + 19 * i) xs ≡ drop (8 +
         splice-drop xs (17 + 19 * i) (changingWords r []) starts (8 + 19 * (i + 1)) (omega arith) ∙ next-still
 
 -- A whole route is a splice of its nineteen words, and the node with the number of routes one of six.
-filled-routes : (rs : List Route) (i : ℕ) (r : Route) → i < length rs → routesWords (set rs i r) ≡ splice (routesWords rs) (19 * i) (routeWords r [])
+filled-routes : (rs : List Route) (rest : List ℕ) (i : ℕ) (r : Route) → i < length rs
+    → routesWords (set rs i r) rest ≡ splice (routesWords rs rest) (19 * i) (routeWords r [])
 unfolding splice
-filled-routes [] i r h = absurd (omega arith)
-filled-routes (q ∷ qs) zero r h = refl
-filled-routes (q ∷ qs) (suc i) r h =
+filled-routes [] rest i r h = absurd (omega arith)
+filled-routes (q ∷ qs) rest zero r h = refl
+filled-routes (q ∷ qs) rest (suc i) r h =
     let k : 19 + 19 * i ≡ 19 * suc i = omega arith in
-    ap (routeWords q) (filled-routes qs i r (omega arith))
-    ∙ sym (splice-past (routeWords q []) (routesWords qs) (19 * i) (routeWords r []))
-    ∙ ap (λ (j : ℕ). splice (routesWords (q ∷ qs)) j (routeWords r [])) k
+    ap (routeWords q) (filled-routes qs rest i r (omega arith))
+    ∙ sym (splice-past (routeWords q []) (routesWords qs rest) (19 * i) (routeWords r []))
+    ∙ ap (λ (j : ℕ). splice (routesWords (q ∷ qs) rest) j (routeWords r [])) k
 
 pub filled-words : (m : Manager) (i : ℕ) (r : Route) → i < length (m .routes) → splice (wordsOf m) (8 + 19 * i) (routeWords r []) ≡ wordsOf (withRoute m i r)
 unfolding wordsOf
 filled-words m i r h =
     let head : List ℕ = nodeWords (nodeOf m) (m .count) (m .last ∷ m .unrouted ∷ []) in
-    splice-past head (routesWords (m .routes)) (19 * i) (routeWords r []) ∙ sym (ap (λ (l : List ℕ). head ++ l) (filled-routes (m .routes) i r h))
+    splice-past head (routesWords (m .routes) (m .setTimes)) (19 * i) (routeWords r [])
+    ∙ sym (ap (λ (l : List ℕ). head ++ l) (filled-routes (m .routes) (m .setTimes) i r h))
 
 pub node-words : (m : Manager) (n : Node) (count : ℕ)
     → splice (wordsOf m) 0 (nodeWords n count [])
-    ≡ wordsOf (record { routes = m .routes; count = count; address = n .address; bias = n .bias; last = m .last; unrouted = m .unrouted })
+    ≡ wordsOf (record { routes = m .routes; count = count; address = n .address; bias = n .bias; last = m .last; unrouted = m .unrouted; setTimes = m .setTimes })
 unfolding splice wordsOf
 node-words m n count = refl

@@ -17,30 +17,30 @@ abbrev pub withUnrouted : Route → ℕ → Route
 withUnrouted r n = record { settings = r .settings; next = r .next; losses = r .losses; unrouted = n; «open» = r .«open»; file = r .file }
 
 -- a store behind a list is one into what stands there
-set-past : (ps xs : List ℕ) (k n : ℕ) → set (ps ++ xs) (length ps + k) n ≡ ps ++ set xs k n
+pub set-past : (ps xs : List ℕ) (k n : ℕ) → set (ps ++ xs) (length ps + k) n ≡ ps ++ set xs k n
 set-past [] xs k n = ap (λ (j : ℕ). set xs j n) (zero-add k)
 set-past (p ∷ ps) xs k n =
     ap (λ (j : ℕ). set (p ∷ (ps ++ xs)) j n) (suc-add (length ps) k) ∙ ap (λ (l : List ℕ). p ∷ l) (set-past ps xs k n)
 
 -- among the routes' words
-unrouted-routes : (rs : List Route) (i : ℕ) → i < length rs → getD (routesWords rs) (19 * i + 11) 0 ≡ getD rs i noRoute .unrouted
-unrouted-routes [] i h = absurd (omega arith)
-unrouted-routes (q ∷ qs) zero h = refl
-unrouted-routes (q ∷ qs) (suc i) h =
+unrouted-routes : (rs : List Route) (rest : List ℕ) (i : ℕ) → i < length rs → getD (routesWords rs rest) (19 * i + 11) 0 ≡ getD rs i noRoute .unrouted
+unrouted-routes [] rest i h = absurd (omega arith)
+unrouted-routes (q ∷ qs) rest zero h = refl
+unrouted-routes (q ∷ qs) rest (suc i) h =
     let k : 19 * suc i + 11 ≡ 19 + (19 * i + 11) = omega arith in
-    ap (λ (j : ℕ). getD (routesWords (q ∷ qs)) j 0) k
-    ∙ getD-append-add (routeWords q []) (routesWords qs) (19 * i + 11) 0
-    ∙ unrouted-routes qs i (omega arith)
+    ap (λ (j : ℕ). getD (routesWords (q ∷ qs) rest) j 0) k
+    ∙ getD-append-add (routeWords q []) (routesWords qs rest) (19 * i + 11) 0
+    ∙ unrouted-routes qs rest i (omega arith)
 
-counted-routes : (rs : List Route) (i n : ℕ) → i < length rs
-    → set (routesWords rs) (19 * i + 11) n ≡ routesWords (set rs i (withUnrouted (getD rs i noRoute) n))
-counted-routes [] i n h = absurd (omega arith)
-counted-routes (q ∷ qs) zero n h = refl
-counted-routes (q ∷ qs) (suc i) n h =
+counted-routes : (rs : List Route) (rest : List ℕ) (i n : ℕ) → i < length rs
+    → set (routesWords rs rest) (19 * i + 11) n ≡ routesWords (set rs i (withUnrouted (getD rs i noRoute) n)) rest
+counted-routes [] rest i n h = absurd (omega arith)
+counted-routes (q ∷ qs) rest zero n h = refl
+counted-routes (q ∷ qs) rest (suc i) n h =
     let k : 19 * suc i + 11 ≡ 19 + (19 * i + 11) = omega arith in
-    ap (λ (j : ℕ). set (routesWords (q ∷ qs)) j n) k
-    ∙ set-past (routeWords q []) (routesWords qs) (19 * i + 11) n
-    ∙ ap (routeWords q) (counted-routes qs i n (omega arith))
+    ap (λ (j : ℕ). set (routesWords (q ∷ qs) rest) j n) k
+    ∙ set-past (routeWords q []) (routesWords qs rest) (19 * i + 11) n
+    ∙ ap (routeWords q) (counted-routes qs rest i n (omega arith))
 
 -- among the state's, behind the node's eight
 module _ (m : Manager) (i : ℕ) (h : i < length (m .routes)) where
@@ -53,18 +53,18 @@ module _ (m : Manager) (i : ℕ) (h : i < length (m .routes)) where
   pub unrouted-word : getD (wordsOf m) (19 + 19 * i) 0 ≡ routeAt m i .unrouted
   unfolding wordsOf
   unrouted-word =
-      ap (λ (j : ℕ). getD (node ++ routesWords (m .routes)) j 0) behind
-      ∙ getD-append-add node (routesWords (m .routes)) (19 * i + 11) 0
-      ∙ unrouted-routes (m .routes) i h
+      ap (λ (j : ℕ). getD (node ++ routesWords (m .routes) (m .setTimes)) j 0) behind
+      ∙ getD-append-add node (routesWords (m .routes) (m .setTimes)) (19 * i + 11) 0
+      ∙ unrouted-routes (m .routes) (m .setTimes) i h
 
   pub counted-word : (n : ℕ) → set (wordsOf m) (19 + 19 * i) n ≡ wordsOf (withRoute m i (withUnrouted (routeAt m i) n))
   unfolding wordsOf
   counted-word n =
-      ap (λ (j : ℕ). set (node ++ routesWords (m .routes)) j n) behind
-      ∙ set-past node (routesWords (m .routes)) (19 * i + 11) n
-      ∙ ap (λ (l : List ℕ). node ++ l) (counted-routes (m .routes) i n h)
+      ap (λ (j : ℕ). set (node ++ routesWords (m .routes) (m .setTimes)) j n) behind
+      ∙ set-past node (routesWords (m .routes) (m .setTimes)) (19 * i + 11) n
+      ∙ ap (λ (l : List ℕ). node ++ l) (counted-routes (m .routes) (m .setTimes) i n h)
 
 -- in any words of a state
-pub unrouted-at : (xs : List ℕ) → length xs ≡ 160 → (i : ℕ) → i < 8 → getD xs (19 + 19 * i) 0 ≡ routeAt (managerIn xs) i .unrouted
+pub unrouted-at : (xs : List ℕ) → length xs ≡ 360 → (i : ℕ) → i < 8 → getD xs (19 + 19 * i) 0 ≡ routeAt (managerIn xs) i .unrouted
 unrouted-at xs e i h =
     ap (λ (l : List ℕ). getD l (19 + 19 * i) 0) (sym (words-words xs e)) ∙ unrouted-word (managerIn xs) i (omega (arith, routes-eight xs))

@@ -1,4 +1,4 @@
--- The manager's state as words of 32 bits, which a gateway lends to each event and may keep as they are. 160 words:
+-- The manager's state as words of 32 bits, which a gateway lends to each event and may keep as they are. 360 words:
 --
 --   0 to 3   the node's address, four octets a word, the first octet the highest
 --   4        the node's UTC offset in minutes, plus 1,439
@@ -6,7 +6,7 @@
 --   6        the last time
 --   7        the unrouted records since fresh
 --
--- and from 8 on 19 words for each of eight routes, configured or not, route 0 first:
+-- from 8 on 19 words for each of eight routes, configured or not, route 0 first:
 --
 --   0 to 4   the filter's twenty octets, four a word
 --   5        the filter's length, then the configured release, extension and version: an octet each
@@ -23,6 +23,9 @@
 --   16       the flag, then its low release, extension and version: an octet each
 --   17       the number of its records
 --   18       their octets
+--
+-- from 160 on a word for each of the eight, how many set minutes it has, and from 168 on 24 words for each, these minutes (document 02,
+-- ask 6): no event changes them.
 --
 -- No bit is without a meaning, so that words and the state that they stand for determine each other (Laws). An event changes words 9 to
 -- 18 of a route (16 with the flag as it was), the last time and the unrouted records. Assumes nothing.
@@ -130,6 +133,7 @@ managerIn xs =
       bias = getD xs 4 0;
       last = getD xs 6 0;
       unrouted = getD xs 7 0;
+      setTimes = drop 160 xs;
     }
 
 -- Words written.
@@ -175,9 +179,9 @@ changingWords r rest =
 abbrev pub routeWords : Route → List ℕ → List ℕ
 routeWords r rest = fixedWords (r .settings) (changingWords r rest)
 
-abbrev pub routesWords : List Route → List ℕ
-routesWords [] = []
-routesWords (r ∷ rs) = routeWords r (routesWords rs)
+abbrev pub routesWords : List Route → List ℕ → List ℕ
+routesWords [] rest = rest
+routesWords (r ∷ rs) rest = routeWords r (routesWords rs rest)
 
 -- the node, and how many routes are configured
 abbrev pub nodeWords : Node → ℕ → List ℕ → List ℕ
@@ -191,4 +195,4 @@ nodeWords n count rest =
     ∷ rest
 
 unfoldable pub wordsOf : Manager → List ℕ
-wordsOf m = nodeWords (nodeOf m) (m .count) (m .last ∷ m .unrouted ∷ routesWords (m .routes))
+wordsOf m = nodeWords (nodeOf m) (m .count) (m .last ∷ m .unrouted ∷ routesWords (m .routes) (m .setTimes))

@@ -8,6 +8,8 @@ pub use reading::flag_of;
 pub use reading::node_of;
 pub use reading::release_in;
 pub use reading::route_at;
+pub use reading::set_count;
+pub use reading::set_minute;
 pub use reading::settings_at;
 pub use reading::settings_in;
 pub use reading::top_of;

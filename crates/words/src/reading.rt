@@ -3,6 +3,7 @@ ghost use mathlib.Core.Path.{_≡_};
 ghost use Prim.Native.Nat.{_≤_, _<_};
 ghost use lib.ListN.{length};
 ghost use Rattle.state.specs.Manager.{routeAt, settingsAt, nodeOf};
+ghost use Rattle.state.specs.SetTimes.{setCount, setMinute};
 ghost use Rattle.words.specs.Words.{octet1, releaseIn, flagOf, restOf, filterIn, addressIn, settingsIn, fileIn, routeIn, managerIn};
 use record::Release;
 use state::Node;
@@ -130,7 +131,7 @@ pub fn route_in(part: &[u32]) -> Route
 
 // The route i, whose opening has its flag taken off; and its settings alone.
 pub fn route_at(words: &[u32], i: usize) -> Route
-    requires { ⌜ (length (now words) ≡ 160) × (i < 8) ⌝ }
+    requires { ⌜ (length (now words) ≡ 360) × (i < 8) ⌝ }
     ensures { λ r. ⌜ (r ≡ routeAt (managerIn (now (words .entry))) i) × (r .file .opened < 2147483648) ⌝ }
 {
     let at = 8 + 19 * i;
@@ -138,7 +139,7 @@ pub fn route_at(words: &[u32], i: usize) -> Route
 }
 
 pub fn settings_at(words: &[u32], i: usize) -> RouteSettings
-    requires { ⌜ (length (now words) ≡ 160) × (i < 8) ⌝ }
+    requires { ⌜ (length (now words) ≡ 360) × (i < 8) ⌝ }
     ensures { λ r. ⌜ r ≡ settingsAt (managerIn (now (words .entry))) i ⌝ }
 {
     let at = 8 + 19 * i;
@@ -154,7 +155,7 @@ fn wide(w: u32) -> usize
 
 // How many routes are configured.
 pub fn count_of(words: &[u32]) -> usize
-    requires { ⌜ length (now words) ≡ 160 ⌝ }
+    requires { ⌜ length (now words) ≡ 360 ⌝ }
     ensures { λ r. ⌜ r ≡ managerIn (now (words .entry)) .count ⌝ }
 {
     wide(words[5])
@@ -162,7 +163,7 @@ pub fn count_of(words: &[u32]) -> usize
 
 // The node: its address from four words, and its offset.
 pub fn node_of(words: &[u32]) -> Node
-    requires { ⌜ length (now words) ≡ 160 ⌝ }
+    requires { ⌜ length (now words) ≡ 360 ⌝ }
     ensures { λ r. ⌜ r ≡ nodeOf (managerIn (now (words .entry))) ⌝ }
 {
     let address = address_in(words[0], words[1], words[2], words[3]);
@@ -193,4 +194,19 @@ fn address_in(a: u32, b: u32, c: u32, d: u32) -> [u8; 16]
         (d / 256 % 256) as u8,
         (d % 256) as u8,
     ]
+}
+
+// How many set minutes route i has, and the j-th of them.
+pub fn set_count(words: &[u32], i: usize) -> usize
+    requires { ⌜ (length (now words) ≡ 360) × (i < 8) ⌝ }
+    ensures { λ r. ⌜ r ≡ setCount (managerIn (now (words .entry)) .setTimes) i ⌝ }
+{
+    wide(words[160 + i])
+}
+
+pub fn set_minute(words: &[u32], i: usize, j: usize) -> u32
+    requires { ⌜ (length (now words) ≡ 360) × (i < 8) × (j < 24) ⌝ }
+    ensures { λ r. ⌜ r ≡ setMinute (managerIn (now (words .entry)) .setTimes) i j ⌝ }
+{
+    words[168 + 24 * i + j]
 }

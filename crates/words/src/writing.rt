@@ -79,7 +79,7 @@ pub fn copy(dst: &mut [u32], at: usize, src: &[u32])
 
 // Puts a route, whose settings are as they were, in the place of the route i.
 pub fn put_route(words: &mut [u32], i: usize, r: Route)
-    requires { ⌜ (length (now words) ≡ 160) × (i < 8) × (r .file .opened < 2147483648) ⌝ }
+    requires { ⌜ (length (now words) ≡ 360) × (i < 8) × (r .file .opened < 2147483648) ⌝ }
     ensures { λ _. ⌜ now (words .exit) ≡ splice (now (words .entry)) (17 + 19 * i) (changingWords r []) ⌝ }
 {
     let changed = changing_words(r);
@@ -88,7 +88,7 @@ pub fn put_route(words: &mut [u32], i: usize, r: Route)
 
 // The same, and the time t as the last one.
 pub fn put(words: &mut [u32], i: usize, r: Route, t: u32)
-    requires { ⌜ (length (now words) ≡ 160) × (i < 8) × (r .file .opened < 2147483648) ⌝ }
+    requires { ⌜ (length (now words) ≡ 360) × (i < 8) × (r .file .opened < 2147483648) ⌝ }
     ensures { λ _. ⌜ now (words .exit) ≡ set (splice (now (words .entry)) (17 + 19 * i) (changingWords r [])) 6 t ⌝ }
 {
     put_route(words, i, r);

@@ -319,6 +319,7 @@ fn octets(case: &Case, filters: &[Vec<u8>]) -> Vec<u8> {
         flag: 0,
         release: Release::default(),
         first: 1,
+        minutes: Vec::new(),
     };
     let routes: Vec<Route> = filters.iter().map(route).collect();
     let node = Node {

@@ -9,9 +9,12 @@ use leveehum::bounds;
 use leveehum::faults::FAULTS;
 use leveehum::forge;
 use leveehum::full::FULL;
-use leveehum::manager::{Manager, LONGEST_FILTER, NODE_OCTETS, ROUTE_OCTETS};
+use leveehum::manager::{
+    Manager, LONGEST_FILTER, MOST_ROUTES, MOST_SETS, NODE_OCTETS, ROUTE_OCTETS,
+};
 use leveehum::proved;
 use leveehum::random::Random;
+use leveehum::settings::set_time;
 use leveehum::states::{Answer, Route, State};
 use leveehum::trials::{self, After, Event, Trial};
 use leveehum::words::{Words, WORDS};
@@ -37,6 +40,7 @@ const SHOWN: usize = 4_096;
 /// Where a file has its closure reason.
 const REASON: usize = 26;
 const CLOSED_AT_ONCE: &str = "RECEIVE opened a file and closed it";
+const MOST_SET_TIMES: &str = "settings accepted with 192 set times";
 
 /// The counters of refusal 19, by which of them refused.
 const LOSSES: &str = "known losses";
@@ -212,6 +216,10 @@ fn compare_fresh(random: &mut Random, counts: &mut Counts) -> Result<(), String>
         })
         .map_err(|what| format!("{what}\nsettings {}", hexadecimal(&octets)))?;
     add(&mut counts.events, &loaded_with(loaded.refusal), 1);
+    let sets = state.configured().iter().map(|route| route.sets.count);
+    if sets.sum::<u32>() as usize == MOST_ROUTES * MOST_SETS {
+        add(&mut counts.events, MOST_SET_TIMES, 1);
+    }
     compare_all(random, &state, counts).map(drop)
 }
 
@@ -224,16 +232,21 @@ fn compare_loaded(settings: &[u8], loaded: Result<Words, u8>) -> Result<(), Stri
     }
 }
 
-/// Leaves settings as they are, changes or cuts them, or makes two filters equal.
+/// Leaves settings as they are, changes or cuts them, makes two filters equal, or adds a set time.
 fn damage(random: &mut Random, octets: &mut Vec<u8>) {
     let at = random.below(octets.len());
-    match random.below(6) {
+    match random.below(8) {
         0 => octets[at] = random.octet(),
         1 => octets[at] = octets[at].wrapping_add(random.pick(&[1, 255])),
         2 => octets.truncate(at),
         3 if octets.len() >= NODE_OCTETS + 2 * ROUTE_OCTETS => {
             let filter = NODE_OCTETS + 1..NODE_OCTETS + 2 + LONGEST_FILTER;
             octets.copy_within(filter, NODE_OCTETS + ROUTE_OCTETS + 1);
+        }
+        4 | 5 => {
+            let any = random.below(1_500) as u16;
+            let minute = random.pick(&[0, 1_439, 1_440, any]);
+            octets.extend_from_slice(&set_time(random.below(9) as u8, minute));
         }
         _ => {}
     }
@@ -398,11 +411,13 @@ fn expected_events() -> Vec<String> {
     let outcomes = [1, 2, 3, 4, 5, 6].map(|outcome| format!("outcome {outcome}"));
     let rises = [LOSSES, "the manager's unrouted", "a route's unrouted"].map(risen);
     let told = ["known losses", "unrouted records"].map(told);
-    let reasons = [1, 3, 5].map(closed_with);
-    let mut names = [&refusals[..], &full, &outcomes, &rises, &told, &reasons].concat();
-    names.extend([UNJUDGED, CLOSED_AT_ONCE].map(str::to_owned));
+    let reasons = [1, 3, 5].map(|reason| closed_with("RECEIVE", reason));
+    let ends = [0, 2].map(|reason| closed_with("TICK", reason));
+    let counted = [&refusals[..], &full, &outcomes, &rises, &told];
+    let mut names = [&counted.concat()[..], &reasons, &ends].concat();
+    names.extend([UNJUDGED, CLOSED_AT_ONCE, MOST_SET_TIMES].map(str::to_owned));
     names.extend((0..=8).map(ticked));
-    names.extend((0..=3).map(loaded_with));
+    names.extend([0, 1, 2, 3, 22].map(loaded_with));
     names
 }
 
@@ -426,8 +441,8 @@ fn with_full(name: &str, kind: &str) -> String {
     format!("{name}, {kind}")
 }
 
-fn closed_with(reason: u8) -> String {
-    format!("RECEIVE closed a file with {reason}")
+fn closed_with(event: &str, reason: u8) -> String {
+    format!("{event} closed a file with {reason}")
 }
 
 fn ticked(files: u8) -> String {
@@ -520,11 +535,16 @@ fn events(trial: &Trial, after: &After) -> Vec<String> {
     let was_open = before.routes.get(route).is_some_and(|route| route.open);
     match outcome {
         2 if files == 1 && !was_open => names.push(CLOSED_AT_ONCE.to_owned()),
-        2 if files == 1 => names.push(closed_with(after.output[REASON])),
+        2 if files == 1 => names.push(closed_with("RECEIVE", after.output[REASON])),
         3 if losses == u32::MAX => names.push(risen(LOSSES)),
         4 => names.extend(unrouted(&before, &behind)),
         5 => names.extend(told_in_full(&before.routes[route])),
-        6 => names.push(ticked(files)),
+        6 => {
+            names.push(ticked(files));
+            if files > 0 {
+                names.push(closed_with("TICK", after.output[REASON]));
+            }
+        }
         _ => {}
     }
     names

@@ -24,9 +24,10 @@ const SEED: u64 = 0x3229_7000_2026_0002;
 const BATCH: usize = 50;
 /// Right scripts for each that ends its run, which takes a process of its own.
 const PER_WRONG: usize = 15;
-const REFUSALS: [u32; 11] = [1, 2, 3, 4, 5, 6, 7, 14, 15, 16, 17];
+const REFUSALS: [u32; 12] = [1, 2, 3, 4, 5, 6, 7, 14, 15, 16, 17, 22];
 const OUTCOMES: [u32; 6] = [1, 2, 3, 4, 5, 6];
 const REASONS: [u32; 6] = [0, 1, 2, 3, 4, 5];
+const TICK_REASONS: [u32; 2] = [0, 2];
 
 fn main() -> ExitCode {
     let arguments: Vec<String> = env::args().skip(1).collect();
@@ -152,6 +153,7 @@ fn compare_random(count: usize) -> Result<(), String> {
         complete("refusals", &counts.refusals, &REFUSALS),
         complete("outcomes", &counts.outcomes, &OUTCOMES),
         complete("closure reasons", &counts.reasons, &REASONS),
+        complete("TICK's", &counts.tick_reasons, &TICK_REASONS),
         counts.most_files == MOST_ROUTES,
         counts.ends == wrong,
     ];

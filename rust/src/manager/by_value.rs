@@ -37,6 +37,10 @@ impl Manager {
         state.address.copy_from_slice(&self.node.address[4..]);
         for (place, route) in state.routes.iter_mut().zip(&self.routes) {
             place.settings = route.settings();
+            place.sets.count = route.minutes.len() as u32;
+            for (place, &minute) in place.sets.minutes.iter_mut().zip(&route.minutes) {
+                *place = minute.into();
+            }
         }
         self.state_after(&state)
     }
@@ -65,6 +69,7 @@ impl Route {
             most: settings.most,
             one_release: settings.flag == 1,
             release: rank(settings.release),
+            minutes: route.sets.counted().iter().map(|&m| m as u16).collect(),
             region,
             next: route.next,
             losses: route.losses,
@@ -150,6 +155,7 @@ mod tests {
     use crate::bounds;
     use crate::forge;
     use crate::random::Random;
+    use crate::states::Sets;
 
     #[test]
     fn a_state_comes_back_as_it_was() {
@@ -164,6 +170,17 @@ mod tests {
         }
     }
 
+    /// What does not count is zeros.
+    fn fresh(sets: &Sets) -> Sets {
+        let mut fresh = Sets {
+            count: sets.count,
+            ..Sets::default()
+        };
+        let counted = sets.counted();
+        fresh.minutes[..counted.len()].copy_from_slice(counted);
+        fresh
+    }
+
     #[test]
     fn a_fresh_manager_has_a_fresh_state() {
         let random = &mut Random::new(5);
@@ -176,6 +193,7 @@ mod tests {
             assert_eq!((state.last, state.unrouted), (0, 0));
             let expected = |route: &states::Route| states::Route {
                 settings: route.settings,
+                sets: fresh(&route.sets),
                 next: route.next,
                 ..states::Route::default()
             };

@@ -1,4 +1,4 @@
--- `gatesteps::put_words` is safe and ends: the lent words stay 160. The measure is the number of words that are left. Assumes nothing.
+-- `gatesteps::put_words` is safe and ends: the lent words stay 360. The measure is the number of words that are left. Assumes nothing.
 use borrow.Author.Needs.{needs}
 use mathlib.Core.Path.{_≡_}
 use Prim.Native.Nat.{_-_}
@@ -10,7 +10,7 @@ abbrev Inv-loop : tie.InvT-loop
 Inv-loop words₀ fresh i₀ words i = length words ≡ length words₀
 
 abbrev μ-loop : tie.MeasureT-loop
-μ-loop words₀ fresh i₀ words i = 160 - i
+μ-loop words₀ fresh i₀ words i = 360 - i
 
 loop-holds : tie.Need-loop-holds Inv-loop μ-loop
 loop-holds c = search needs

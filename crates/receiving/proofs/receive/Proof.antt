@@ -60,7 +60,7 @@ abbrev at : tie.Else4 → ℕ
 at c = c .before .before .routed-to .result .at
 
 -- the words are as many as a state has
-right : (c : tie.Else1) → length (from1 c .args .words .now) ≡ 160
+right : (c : tie.Else1) → length (from1 c .args .words .now) ≡ 360
 right c = c .if1 .left
 
 passed : (c : tie.Else2) → first (common (state (from2 c)) (length (from2 c .args .store .now)) (from2 c .args .time) []) ≡ 0

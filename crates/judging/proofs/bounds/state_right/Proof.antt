@@ -1,11 +1,12 @@
 -- `judging::bounds::state_right` meets its contract: a count above 8 is against the definition's second test, and otherwise its
--- six tests are the definition's. Assumes nothing.
+-- seven tests are the definition's. Assumes nothing.
 use mathlib.Core.Path.{_≡_, ap, _∙_}
 use mathlib.Core.Bool.{false, _&&_, and-false}
 use native.Mathlib.Omega.{arith}
 use lib.Dec.{leb}
 use lib.ListN.{getD}
 use borrow.Author.Tests.{lt-leb}
+use Rattle.state.specs.SetTimes.{setsRight}
 use Rattle.state.specs.Bounds.{distinct, routesRight, stateRight}
 use Rattle.words.specs.Words.{managerIn}
 use borrow.Author.Needs.{needs}
@@ -29,6 +30,9 @@ routes-right-requires c κs = search needs
 are-distinct-requires : tie.Need-are-distinct-requires
 are-distinct-requires c κs = search needs
 
+sets-right-requires : tie.Need-sets-right-requires
+sets-right-requires c κs = search needs
+
 shared-slice-read-result : tie.Need-shared-slice-read-result
 shared-slice-read-result c = search needs
 
@@ -38,12 +42,13 @@ shared-slice-read-result-2 c = search needs
 returns-2 : tie.Need-returns-2
 unfolding stateRight managerIn
 returns-2 c =
-    let a = c .before .before .before .before .before .before .before .args in
+    let a = c .before .before .before .before .before .before .before .before .args in
     let xs = a .words .now in
-    let n = c .before .before .before .before .before .count-of .ensures in
-    let routes = c .before .before .before .routes-right .ensures ∙ ap (routesRight (managerIn xs)) n in
-    let filters = c .before .before .are-distinct .ensures ∙ ap (distinct (managerIn xs)) n in
-    λ i. leb 1 (n i) && leb (n i) 8 && leb (getD xs 4 0) 2878 && leb (getD xs 6 0) 52595999 && routes i && filters i
+    let n = c .before .before .before .before .before .before .count-of .ensures in
+    let routes = c .before .before .before .before .routes-right .ensures ∙ ap (routesRight (managerIn xs)) n in
+    let filters = c .before .before .before .are-distinct .ensures ∙ ap (distinct (managerIn xs)) n in
+    let sets = c .before .before .sets-right .ensures ∙ ap (setsRight (managerIn xs .setTimes)) n in
+    λ i. leb 1 (n i) && leb (n i) 8 && leb (getD xs 4 0) 2878 && leb (getD xs 6 0) 52595999 && routes i && filters i && sets i
 
 pub state-right-spec : {M : Type 1} → statement M
 state-right-spec =
@@ -53,6 +58,7 @@ state-right-spec =
     returns
     routes-right-requires
     are-distinct-requires
+    sets-right-requires
     shared-slice-read-result
     shared-slice-read-result-2
     returns-2)

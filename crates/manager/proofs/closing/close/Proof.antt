@@ -31,7 +31,7 @@ abbrev start : tie.Else2 → tie.Start
 start c = c .before .before .before .before .before .before .before
 
 -- the words are as many as a state has
-right : (c : tie.Else1) → length (c .before .before .before .before .args .words .now) ≡ 160
+right : (c : tie.Else1) → length (c .before .before .before .before .args .words .now) ≡ 360
 right c = c .if1 .left
 
 -- none of the first refusals applies

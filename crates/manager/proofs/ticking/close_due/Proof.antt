@@ -2,24 +2,26 @@
 -- closes one file behind those before it. Assumes nothing.
 use borrow.Author.Needs.{needs}
 use mathlib.Core.Path.{_≡_, sym, ap, _∙_}
-use mathlib.Core.Bool.{true}
+use mathlib.Core.Bool.{true, cond}
 use mathlib.Core.Logic.{⊎-elim}
 use Prim.Native.Nat.{ℕ, _+_, _-_, _≤_, _<_}
 use native.Mathlib.Omega.{arith}
 use Rattle.octets.specs.Splice.{splice}
 use Rattle.state.specs.declared.Route.{Route}
+use Rattle.state.specs.declared.Node.{Node}
 use Rattle.state.specs.Manager.{Manager}
 use Rattle.state.specs.Manager.{routeAt, base, nodeOf}
 use Rattle.state.specs.Regions.{region-within}
 use Rattle.words.specs.Words.{managerIn, wordsOf}
 use Rattle.words.specs.Laws.{twenty}
-use Rattle.filing.specs.Closing.{lostOctet, closedSize}
+use Rattle.filing.specs.Closing.{lostOctet, closedFile, closedSize}
 use Rattle.filing.specs.Closed.{closed-length}
 use Rattle.filing.specs.Needs.{Closable}
-use Rattle.events.specs.Rules.{closedRoute, due}
-use Rattle.events.specs.Events.{upTo}
+use Rattle.events.specs.Met.{met}
+use Rattle.events.specs.Rules.{closedRoute, due, ending}
+use Rattle.events.specs.Events.{metAt, ends, endReason, upTo}
 use Rattle.events.specs.Cases.{closable-as, closed-as}
-use Rattle.manager.specs.Tick.{Inv, begins, same-route, ready, turn-not, turn-due}
+use Rattle.manager.specs.Tick.{Inv, begins, same-route, same-sets, meets, ready, turn-not, turn-due}
 use Rattle.manager.proofs.ticking.close_due.Statement.{statement}
 use Rattle.manager.proofs.ticking.close_due.Tie as tie
 
@@ -45,15 +47,24 @@ below c = omega (arith, few (start c), c .before .before .loop-test .taken)
 route-is : (c : tie.After-route-at Inv-loop μ-loop) → c .route-at .result ≡ routeAt (state (start c)) (c .before .before .before .loop .i)
 route-is c = c .route-at .ensures .0 ∙ same-route _ _ _ _ _ (c .before .before .before .loop .inv .1) (c .before .before .loop-test .taken) (few (start c))
 
-due-is : (c : tie.After-is-due Inv-loop μ-loop) → c .is-due .result ≡ true
-    → due (start (c .before) .args .t) (routeAt (state (start (c .before))) (c .before .before .before .before .loop .i)) ≡ true
-due-is c e = ap (due (start (c .before) .args .t)) (sym (route-is (c .before))) ∙ sym (c .is-due .ensures) ∙ e
+-- whether its file ends
+told : (c : tie.After-is-ending Inv-loop μ-loop)
+    → let r = c .before .before .before in
+    c .is-ending .result ≡ ends (state (start r)) (start r .args .t) (r .before .before .before .loop .i)
+told c =
+    let r = c .before .before .before in
+    let l = r .before .before .before .loop in
+    let m = state (start r) in
+    let t = start r .args .t in
+    let sets = same-sets _ _ _ _ _ (l .inv .1) (r .before .before .loop-test .taken) (few (start r)) in
+    let fell : c .before .is-met .result ≡ metAt m t (l .i) = c .before .is-met .ensures ∙ (λ k. met (sets k) (l .i) (l .inv .0 k .bias) (route-is r k .file .opened) t) in
+    c .is-ending .ensures ∙ (λ k. ending t (route-is r k) (fell k))
 
--- a file that is due can be closed behind those before it
+-- a file that ends can be closed behind those before it
 closable : (c : tie.After-route-at Inv-loop μ-loop)
     → let l = c .before .before .before .loop in
     let r = routeAt (state (start c)) (l .i) in
-    due (start c .args .t) r ≡ true
+    ends (state (start c)) (start c .args .t) (l .i) ≡ true
     → Closable (nodeOf (state (start c))) r (lostOctet r) (start c .args .store .now) (base (state (start c)) (l .i)) (l .output) (l .at)
 closable c e = ready _ _ _ _ _ (c .before .before .before .loop .inv .1) (c .before .before .loop-test .taken) e (start c .pre .1)
 
@@ -66,14 +77,24 @@ loop-holds c = (c .node-of .ensures, begins _ _ _ _ _ (c .before .before .before
 route-at-requires : tie.Need-route-at-requires Inv-loop μ-loop
 route-at-requires c κs = (c .before .before .loop .inv .1 .number, omega (arith, few (c .before .before .before .before .before .before .before .before), c .before .loop-test .taken))
 
-is-due-requires : tie.Need-is-due-requires Inv-loop μ-loop
-is-due-requires c κs = search needs
+is-met-requires : tie.Need-is-met-requires Inv-loop μ-loop
+is-met-requires c κs =
+    let r = c .before in
+    let l = r .before .before .before .loop in
+    meets _ _ _ _ _ (l .inv .1) (r .before .before .loop-test .taken) (start r .pre .1) (r .route-at .ensures .1) (ap (λ (n : Node). n .bias) (l .inv .0))
+
+is-ending-requires : tie.Need-is-ending-requires Inv-loop μ-loop
+is-ending-requires c κs = search needs
+
+end-reason-requires : tie.Need-end-reason-requires Inv-loop μ-loop
+end-reason-requires c κs = search needs
 
 close-file-requires : tie.Need-close-file-requires Inv-loop μ-loop
 close-file-requires c κs =
-    let e = c .before .before .before in
+    let e = c .before .before .before .before .before .before in
     let l = e .before .before .before .loop in
-    closable-as (state (start e)) (l .i) (l .inv .0) (route-is e) (l .inv .1 .from) (closable e (due-is (c .before .before) (c .before .if1 .taken)))
+    let d = c .before .before .before in
+    closable-as (state (start e)) (l .i) (l .inv .0) (route-is e) (l .inv .1 .from) (closable e (sym (told d) ∙ c .before .before .if1 .taken))
 
 closed-size-requires : tie.Need-closed-size-requires Inv-loop μ-loop
 closed-size-requires c κs = search needs
@@ -83,21 +104,22 @@ closed-route-requires c κs = search needs
 
 put-route-requires : tie.Need-put-route-requires Inv-loop μ-loop
 put-route-requires c κs =
-    let e = c .before .before .before .before .before .before .before .before .before in
+    let e = c .before .before .before .before .before .before .before .before .before .before .before .before in
     let l = e .before .before .before .loop in
     let file = c .before .closed-route .ensures in
     (l .inv .1 .number, below e, omega (arith, ap (λ (r : Route). r .file .opened) file))
 
 add-at : tie.Need-add-at Inv-loop μ-loop
 add-at c =
-    let e = c .before .before .before .before .before .before .before .before .before .before .before .before in
+    let b = c .before .before .before .before .before .before .before .before .before .before .before in
+    let e = b .before .before .before .before in
     let l = e .before .before .before .loop in
     let n = c .before .before .before .before .before .closed-size .ensures ∙ ap closedSize (route-is e) in
-    omega (arith, closable e (due-is (c .before .before .before .before .before .before .before .before .before .before .before) (c .before .before .before .before .before .before .before .before .before .before .if1 .taken)) .room, l .inv .1 .long, n, start e .good)
+    omega (arith, closable e (sym (told (b .before)) ∙ b .if1 .taken) .room, l .inv .1 .long, n, start e .good)
 
 add-files : tie.Need-add-files Inv-loop μ-loop
 add-files c =
-    let e = c .before .before .before .before .before .before .before .before .before .before .before .before in
+    let e = c .before .before .before .before .before .before .before .before .before .before .before .before .before .before .before in
     omega (arith, e .before .before .before .loop .inv .1 .few, below e)
 
 cast-from : tie.Need-cast-from Inv-loop μ-loop
@@ -105,7 +127,7 @@ cast-from c = search needs
 
 add-from : tie.Need-add-from Inv-loop μ-loop
 add-from c =
-    let e = c .before .before .before in
+    let e = c .before .before .before .before .before in
     let l = e .before .before .before .loop in
     let m = state (start e) in
     let p = start e .pre .1 in
@@ -113,15 +135,15 @@ add-from c =
     omega (arith, l .inv .1 .from, limit, region-within m (l .i) (m .count) (omega (arith, p .few, e .before .before .loop-test .taken)), p .regions, start e .good)
 
 add-i : tie.Need-add-i Inv-loop μ-loop
-add-i c = omega (arith, below (c .before .before .before))
+add-i c = omega (arith, below (c .before .before .before .before .before))
 
 loop-less : tie.Need-loop-less Inv-loop μ-loop
 loop-less c = search needs
 
 loop-again : tie.Need-loop-again Inv-loop μ-loop
 loop-again c =
-    let e = c .before .before .before in
     let d = c .before .before in
+    let e = d .before .before .before in
     let l = e .before .before .before .loop in
     let s = start e in
     let a = s .args in
@@ -130,17 +152,20 @@ loop-again c =
     let limit = ap (λ (r : Route). r .settings .limit) (route-is e) in
     ⊎-elim
     (λ w.
-    let due-now = due-is d (w .0 .taken) in
-    let able = closable e due-now in
-    rw (w .11, w .12, w .13, w .14) (
+    let ends-now = sym (told d) ∙ w .0 .taken in
+    let able = closable e ends-now in
+    let reason : w .1 .result ≡ endReason (state s) (a .t) (l .i) = w .1 .ensures ∙ ap (λ (r : Route). cond (due (a .t) r) 2 0) (route-is e) in
+    rw (w .12, w .13, w .14, w .15) (
       l .inv .0,
-      turn-due _ _ _ _ _ v more due-now (few s) limit (ap (λ (n : ℕ). l .at + n) (w .5 .ensures ∙ ap closedSize (route-is e)))
-          (w .2 .ensures ∙ ap (splice (l .output) (l .at)) (closed-as (state s) (a .store .now) (l .i) 2 (l .inv .0) (route-is e) (v .from)))
-          (closed-length (state s) (a .store .now) (l .i) 2 (able .records) (able .filter) (twenty (a .words .now) (l .i) (below e)))
-          (w .2 .kept .1 .1 .1 .1 .1 .0)
-          (w .6 .ensures ∙ ap closedRoute (route-is e)) (w .8 .ensures),
+      turn-due _ _ _ _ _ v more ends-now (few s) limit (ap (λ (n : ℕ). l .at + n) (w .6 .ensures ∙ ap closedSize (route-is e)))
+          (w .3 .ensures
+          ∙ ap (splice (l .output) (l .at))
+          (closed-as (state s) (a .store .now) (l .i) (w .1 .result) (l .inv .0) (route-is e) (v .from) ∙ ap (closedFile (state s) (a .store .now) (l .i)) reason))
+          (closed-length (state s) (a .store .now) (l .i) (endReason (state s) (a .t) (l .i)) (able .records) (able .filter) (twenty (a .words .now) (l .i) (below e)))
+          (w .3 .kept .1 .1 .1 .1 .1 .0)
+          (w .7 .ensures ∙ ap closedRoute (route-is e)) (w .9 .ensures),
     ))
-    (λ w. rw (w .1, w .2, w .3, w .4) (l .inv .0, turn-not _ _ _ _ _ v more limit (ap (due (a .t)) (sym (route-is e)) ∙ sym (d .is-due .ensures) ∙ w .0 .left)))
+    (λ w. rw (w .1, w .2, w .3, w .4) (l .inv .0, turn-not _ _ _ _ _ v more limit (sym (told d) ∙ w .0 .left)))
     (c .before .if1 .came)
 
 same-length : tie.Need-same-length Inv-loop μ-loop
@@ -171,7 +196,9 @@ close-due-spec =
     node-of-requires
     loop-holds
     route-at-requires
-    is-due-requires
+    is-met-requires
+    is-ending-requires
+    end-reason-requires
     close-file-requires
     closed-size-requires
     closed-route-requires
