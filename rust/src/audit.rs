@@ -26,6 +26,15 @@ pub const TOLD: [Telling; 5] = [
     ("both", |told| told.losses > 0 && told.unrouted > 0),
 ];
 
+/// What comparing a filter with a key may come to; it costs nothing, its length, 1, its length, or less.
+pub const COMPARISONS: [&str; 5] = [
+    "longer than the key",
+    "a prefix of it",
+    "different in the first octet",
+    "in the last",
+    "between",
+];
+
 /// What all scripts of a run came to.
 #[derive(Default)]
 pub struct Counts {
@@ -35,6 +44,8 @@ pub struct Counts {
     pub reasons: Tally,
     /// The reasons of the files that TICK closed.
     pub tick_reasons: Tally,
+    /// Filters that were compared with a key, by what that came to: each of `COMPARISONS`.
+    pub comparisons: [usize; COMPARISONS.len()],
     pub records: usize,
     /// Closed files that told each of `TOLD`.
     pub told: [usize; TOLD.len()],
@@ -69,6 +80,7 @@ struct Answer {
     route: usize,
     files: usize,
     octets: usize,
+    compared: usize,
 }
 
 /// Looks through a script and all that was printed for it.
@@ -127,14 +139,16 @@ fn look<'a>(
             Ok(true)
         }
         (b'A', event) => {
-            let [refusal, outcome, route, files, octets] = numbers(rest)?;
-            let [route, files, octets] = [route, files, octets].map(|number| number as usize);
+            let [refusal, outcome, route, files, octets, compared] = numbers(rest)?;
+            let [route, files, octets, compared] =
+                [route, files, octets, compared].map(|number| number as usize);
             let answer = Answer {
                 refusal,
                 outcome,
                 route,
                 files,
                 octets,
+                compared,
             };
             settle(event, &answer, accounts, answers, counts)?;
             Ok(true)
@@ -190,6 +204,18 @@ fn settle<'a>(
     counts: &mut Counts,
 ) -> Result<(), String> {
     *counts.refusals.entry(answer.refusal).or_default() += 1;
+    let compared = match event {
+        Line::Receive { record, .. } if answer.refusal == 0 && record.mark != 2 => {
+            compared_with(&record.key, accounts, counts)
+        }
+        _ => 0,
+    };
+    if compared != answer.compared {
+        return Err(format!(
+            "{compared} octets compared, not {}",
+            answer.compared
+        ));
+    }
     if answer.refusal != 0 {
         return Ok(());
     }
@@ -221,6 +247,26 @@ fn settle<'a>(
         true => Ok(()),
         false => Err(format!("{octets} octets of files, not {}", answer.octets)),
     }
+}
+
+/// How many octets of the filters a key is compared with, one filter after another and octet by octet.
+fn compared_with(key: &[u8], accounts: &[Account], counts: &mut Counts) -> usize {
+    let mut compared = 0;
+    for Account { filter, .. } in accounts {
+        let (kind, cost) = if filter.len() > key.len() {
+            (0, 0)
+        } else {
+            match (0..filter.len()).find(|&at| filter[at] != key[at]) {
+                None => (1, filter.len()),
+                Some(0) => (2, 1),
+                Some(at) if at + 1 == filter.len() => (3, at + 1),
+                Some(at) => (4, at + 1),
+            }
+        };
+        counts.comparisons[kind] += 1;
+        compared += cost;
+    }
+    compared
 }
 
 /// Holds a closed file against its route's account, which starts anew; the closure reason. A file

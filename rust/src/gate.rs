@@ -256,17 +256,18 @@ fn print(printed: &mut Vec<u8>, line: std::fmt::Arguments) {
 
 fn print_answer(answer: Answer, printed: &mut Vec<u8>) {
     match answer {
-        Err((refusal, needed)) => print(printed, format_args!("A {refusal} 0 0 0 {needed}")),
+        Err((refusal, needed)) => print(printed, format_args!("A {refusal} 0 0 0 {needed} 0")),
         Ok(Accepted {
             outcome,
             route,
             files,
             octets,
+            compared,
         }) => {
             let outcome = outcome as u8;
             print(
                 printed,
-                format_args!("A 0 {outcome} {route} {files} {octets}"),
+                format_args!("A 0 {outcome} {route} {files} {octets} {compared}"),
             );
         }
     }
@@ -322,7 +323,7 @@ mod tests {
     #[test]
     fn the_example() {
         let script = "R 0 0 - 4 3 0 1 15 A1B2\nC 0 0 4\nQ\n";
-        let expected = "A 0 2 0 0 0\nA 0 5 0 1 67\n\
+        let expected = "A 0 2 0 0 0 0\nA 0 5 0 1 67 0\n\
             F 000000430000003D83831080080010800800000000010000000704FFFFFFFF0000000000000000000\
             0FFFFC000020100000000090100000000000000000002832FA1B2\n\
             Q 0 0\nq 0 0 0 0 0 8\n";
@@ -374,10 +375,10 @@ mod tests {
 
     #[test]
     fn numbers_beyond_an_octet_get_their_refusals() {
-        assert_eq!(after_settings("O 0 256\n"), "A 6 0 0 0 0\n");
-        assert_eq!(after_settings("C 0 0 260\n"), "A 7 0 0 0 0\n");
-        assert_eq!(after_settings("R 0 256 - 4 0 0 0 0 -\n"), "A 5 0 0 0 0\n");
-        assert_eq!(after_settings("R 0 0 - 260 0 0 0 0 -\n"), "A 5 0 0 0 0\n");
+        assert_eq!(after_settings("O 0 256\n"), "A 6 0 0 0 0 0\n");
+        assert_eq!(after_settings("C 0 0 260\n"), "A 7 0 0 0 0 0\n");
+        assert_eq!(after_settings("R 0 256 - 4 0 0 0 0 -\n"), "A 5 0 0 0 0 0\n");
+        assert_eq!(after_settings("R 0 0 - 260 0 0 0 0 -\n"), "A 5 0 0 0 0 0\n");
         assert_eq!(after_settings("R 0 0 - 4 0 256 0 0 -\n"), "E 2\n");
     }
 
@@ -421,19 +422,22 @@ mod tests {
 
     #[test]
     fn store_and_window() {
-        assert_eq!(after_settings("M 127\nT 0\n"), "A 16 0 0 0 0\n");
+        assert_eq!(after_settings("M 127\nT 0\n"), "A 16 0 0 0 0 0\n");
         assert_eq!(
             after_settings("M 127\nQ\nM 128\nT 0\n"),
-            "Q 0 0\nq 0 0 0 0 0 7\nA 0 6 255 0 0\n"
+            "Q 0 0\nq 0 0 0 0 0 7\nA 0 6 255 0 0 0\n"
         );
-        assert_eq!(after_settings("T 0\nM 128\n"), "A 0 6 255 0 0\nE 3\n");
-        assert_eq!(after_settings("T 99999999\nM 128\n"), "A 4 0 0 0 0\nE 3\n");
+        assert_eq!(after_settings("T 0\nM 128\n"), "A 0 6 255 0 0 0\nE 3\n");
+        assert_eq!(
+            after_settings("T 99999999\nM 128\n"),
+            "A 4 0 0 0 0 0\nE 3\n"
+        );
         assert_eq!(
             after_settings("W 60\nO 0 0\nC 0 0 0\n"),
-            "A 0 1 0 0 0\nA 17 0 0 0 61\n"
+            "A 0 1 0 0 0 0\nA 17 0 0 0 61 0\n"
         );
         let again = format!("W 60\n{SETTINGS}\nO 0 0\nC 0 0 0\n");
-        assert!(after_settings(&again).contains("A 0 5 0 1 61\nF 0000003D"));
+        assert!(after_settings(&again).contains("A 0 5 0 1 61 0\nF 0000003D"));
     }
 
     #[test]
@@ -449,11 +453,11 @@ mod tests {
     #[test]
     fn limits_of_the_program() {
         let long = |length: usize| format!("#{}\nT 0\n", "x".repeat(length - 1));
-        assert_eq!(after_settings(&long(LONGEST_LINE)), "A 0 6 255 0 0\n");
+        assert_eq!(after_settings(&long(LONGEST_LINE)), "A 0 6 255 0 0 0\n");
         assert_eq!(after_settings(&long(LONGEST_LINE + 1)), "E 2\n");
         assert_eq!(
             after_settings("R 0 0 - 4 0 0 0 0 *70000\n"),
-            "A 0 3 0 0 0\n"
+            "A 0 3 0 0 0 0\n"
         );
         let wide = SETTINGS.replace("00000080", "00080000");
         assert_eq!(printed(&format!("{wide}\n")), "S 0 1\n");

@@ -59,6 +59,8 @@ pub struct Accepted {
     /// How many files were closed, and their octets in the output.
     pub files: u8,
     pub octets: usize,
+    /// The octets of filters that RECEIVE compared with the key.
+    pub compared: u8,
 }
 
 /// An event's answer; refused, it is the refusal's number and the needed octets (0 but for 17).
@@ -298,6 +300,7 @@ impl Manager {
             route: NO_ROUTE,
             files,
             octets,
+            compared: 0,
         })
     }
 
@@ -311,8 +314,9 @@ impl Manager {
     ) -> Answer {
         let now = self.effective(store, time)?;
         let usable = arrival.usable().ok_or((5, 0))?;
-        let Some(index) = self.route_of(arrival) else {
-            return self.miss(now);
+        let (index, compared) = self.route_of(arrival);
+        let Some(index) = index else {
+            return self.miss(now, compared);
         };
         let route = &mut self.routes[index];
         let placed = match usable {
@@ -326,7 +330,7 @@ impl Manager {
             }
         };
         self.last = now;
-        Ok(placed)
+        Ok(Accepted { compared, ..placed })
     }
 
     /// Whether the state is within every bound of refusal 18. This manager owns its state and never
@@ -384,20 +388,31 @@ impl Manager {
         (index < self.routes.len()).then_some(index).ok_or((6, 0))
     }
 
-    /// The route with the longest filter that is a prefix of the key, if the key is to be trusted.
-    fn route_of(&self, arrival: &Arrival) -> Option<usize> {
+    /// The route with the longest filter that is a prefix of the key, if the key is to be trusted; and
+    /// how many octets of filters were compared to find it.
+    fn route_of(&self, arrival: &Arrival) -> (Option<usize>, u8) {
         if arrival.mark == 2 {
-            return None;
+            return (None, 0);
         }
-        let routes = self.routes.iter().enumerate();
-        routes
-            .filter(|(_, route)| arrival.key.starts_with(route.filter()))
-            .max_by_key(|(_, route)| route.filter_octets)
-            .map(|(index, _)| index)
+        let mut compared = 0;
+        let mut best: Option<usize> = None;
+        for (index, route) in self.routes.iter().enumerate() {
+            let octets = route.filter_octets;
+            if octets > arrival.key.len() {
+                continue;
+            }
+            let same = common_octets(route.filter(), arrival.key);
+            compared += octets.min(same + 1);
+            let is_longer = |best: usize| self.routes[best].filter_octets < octets;
+            if same == octets && best.is_none_or(is_longer) {
+                best = Some(index);
+            }
+        }
+        (best, compared as u8)
     }
 
     /// Counts an unrouted record on every route, since each might have been its.
-    fn miss(&mut self, now: u32) -> Answer {
+    fn miss(&mut self, now: u32, compared: u8) -> Answer {
         let mut counters = self.routes.iter().map(|route| route.unrouted);
         if self.unrouted == u32::MAX || counters.any(|counter| counter == u32::MAX) {
             return Err((19, 0));
@@ -407,7 +422,8 @@ impl Manager {
             route.unrouted += 1;
         }
         self.last = now;
-        Ok(accepted(Outcome::Unrouted, usize::from(NO_ROUTE), None))
+        let missed = accepted(Outcome::Unrouted, usize::from(NO_ROUTE), None);
+        Ok(Accepted { compared, ..missed })
     }
 }
 
@@ -418,7 +434,16 @@ fn accepted(outcome: Outcome, route: usize, closed: Option<usize>) -> Accepted {
         route: route as u8,
         files: u8::from(closed.is_some()),
         octets: closed.unwrap_or(0),
+        compared: 0,
     }
+}
+
+/// How many octets are the same, from the first on: eight at a time, and then one by one.
+fn common_octets(a: &[u8], b: &[u8]) -> usize {
+    let eights = a.as_chunks::<8>().0.iter().zip(b.as_chunks::<8>().0);
+    let start = 8 * eights.take_while(|(a, b)| a == b).count();
+    let ones = a[start..].iter().zip(&b[start..]);
+    start + ones.take_while(|(a, b)| a == b).count()
 }
 
 impl<'a> Arrival<'a> {
@@ -1490,6 +1515,46 @@ mod tests {
         desk.open(0, 0);
         assert_eq!(desk.tick(10), [6, 255, 1, 61]);
         assert_eq!(desk.output[26], TOO_OLD);
+    }
+
+    #[test]
+    fn octets_of_filters_are_counted() {
+        let routes = [&b"1234"[..], b"123", b"1", b"A2", b"12C"].map(|filter| settings::Route {
+            filter: filter.to_vec(),
+            ..plain()
+        });
+        let compared = |mark: u32, key: &[u8]| {
+            let mut manager = Manager::load(&lay(&routes)).expect("right settings");
+            let mut store = vec![0; manager.store_octets()];
+            let arrival = Arrival {
+                mark,
+                key,
+                ..Arrival::default()
+            };
+            let answer = manager.receive(&mut store, &mut [], 0, &arrival);
+            answer.map(|accepted| (accepted.outcome, accepted.compared))
+        };
+        // Longer 0, equal 3, a prefix 1, different in the first octet 1, in the last 3.
+        assert_eq!(compared(0, b"123"), Ok((Outcome::Placed, 8)));
+        assert_eq!(compared(1, b"123"), Ok((Outcome::Lost, 8)));
+        assert_eq!(compared(2, b"123"), Ok((Outcome::Unrouted, 0)));
+        assert_eq!(compared(0, b"1234"), Ok((Outcome::Placed, 12)));
+        assert_eq!(compared(0, b"2"), Ok((Outcome::Unrouted, 1)));
+        assert_eq!(compared(0, b""), Ok((Outcome::Unrouted, 0)));
+        assert_eq!(compared(3, b"123"), Err((5, 0)));
+    }
+
+    #[test]
+    fn octets_in_common_are_counted_from_the_first() {
+        for length in 0..=20 {
+            let octets = vec![0xA5; length];
+            assert_eq!(common_octets(&octets, &[0xA5; 20]), length);
+            for at in 0..length {
+                let mut other = octets.clone();
+                other[at] = 0;
+                assert_eq!(common_octets(&other, &octets), at);
+            }
+        }
     }
 
     #[test]

@@ -107,6 +107,8 @@ pub struct Answer {
     pub outcome: u8,
     pub route: u8,
     pub files: u8,
+    /// The octets of filters that RECEIVE compared with the key.
+    pub compared: u8,
     pub octets: usize,
 }
 
@@ -123,6 +125,7 @@ impl From<manager::Answer> for Answer {
                 outcome: accepted.outcome as u8,
                 route: accepted.route,
                 files: accepted.files,
+                compared: accepted.compared,
                 octets: accepted.octets,
             },
         }

@@ -27,6 +27,7 @@ use Rattle.writer.specs.Writer.{After, after, writeOf}
 use Rattle.writer.specs.Writer.{verdict as writerVerdict}
 use Rattle.state.specs.Loss.{indicator}
 use Rattle.state.specs.Routing.{fits, routeOf}
+use Rattle.state.specs.Compared.{comparedFor}
 use Rattle.state.specs.SetTimes.{setsRight}
 use Rattle.state.specs.Bounds.{sameFilter, settingsRight, fileRight, stateRight}
 use Rattle.settings.specs.Settings.{routesIn, wrongShape, beyondRange, equalFilters, wrongSets, setTimesFrom, freshOf}
@@ -142,14 +143,14 @@ countedOctets =
 
 -- a record on the table's route, by the manager's definitions and by the ledger's
 abbrev placed : Answer
-placed = answered 2 0 0 0
+placed = answered 2 0 0 0 0
 
 abbrev Placed : Arrival → ℕ → Type 0
 Placed a body = (answers (receive a body ∷ []) ≡ placed ∷ []) × (booked (receive a body ∷ []) ≡ placed ∷ [])
 
 abbrev LostThere : Arrival → ℕ → Type 0
 LostThere a body =
-    (answers (receive a body ∷ []) ≡ answered 3 0 0 0 ∷ []) × (booked (receive a body ∷ []) ≡ answered 3 0 0 0 ∷ [])
+    (answers (receive a body ∷ []) ≡ answered 3 0 0 0 0 ∷ []) × (booked (receive a body ∷ []) ≡ answered 3 0 0 0 0 ∷ [])
 
 -- a release-7 record behind a release-4 body of 20
 abbrev behind20 : ℕ → List Event
@@ -179,9 +180,9 @@ EdgeTable =
     × Placed release7 60 × LostThere release7 61
     -- that file holding a release-4 body of 20, flag 0: release-7 body 37 of the same format joins it, 38 closes it with 1
     × (answers (behind20 37) ≡ placed ∷ placed ∷ [])
-    × (answers (behind20 38) ≡ placed ∷ answered 2 0 1 85 ∷ [])
+    × (answers (behind20 38) ≡ placed ∷ answered 2 0 1 85 0 ∷ [])
     × (booked (behind20 37) ≡ placed ∷ placed ∷ [])
-    × (booked (behind20 38) ≡ placed ∷ answered 2 0 1 85 ∷ [])
+    × (booked (behind20 38) ≡ placed ∷ answered 2 0 1 85 0 ∷ [])
     × (getD (getD (outputs 85 (behind20 38)) 1 []) 26 0 ≡ 1)
     -- the file, as a layout and through the events
     × (layout countedFile ≡ countedOctets)
@@ -189,7 +190,7 @@ EdgeTable =
     × (filed fileEvents ≡ [] ∷ [] ∷ countedOctets ∷ [])
 
 pub edge-table : EdgeTable
-unfolding wordsOf managerIn routeIn openOn closeOn receiveOn stampOf timestampOf wordOf dateFrom monthDays fileOctets fixedOctets recordsOctets recordOctets highest lowest freshOf settingsVerdict routesIn wrongShape beyondRange equalFilters wrongSets setTimesFrom settingsRight sameFilter stateRight setsRight fileRight fits routeOf openOf closeOf receiveOf closedFile splice answerOf entryOf
+unfolding wordsOf managerIn routeIn openOn closeOn receiveOn stampOf timestampOf wordOf dateFrom monthDays fileOctets fixedOctets recordsOctets recordOctets highest lowest freshOf settingsVerdict routesIn wrongShape beyondRange equalFilters wrongSets setTimesFrom settingsRight sameFilter stateRight setsRight fileRight fits routeOf comparedFor openOf closeOf receiveOf closedFile splice answerOf entryOf
 edge-table = (
   refl,
   refl,

@@ -5,3 +5,4 @@ pub mod Layout
 pub mod LossCounts
 pub mod Extensions
 pub mod SetTimes
+pub mod Comparisons

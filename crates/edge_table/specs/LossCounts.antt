@@ -15,6 +15,7 @@ use Rattle.record.specs.Record.{recordOctets, recordsOctets, highest, lowest}
 use Rattle.cdrfile.specs.File.{fixedOctets, fileOctets}
 use Rattle.counts.specs.Counts.{countOctets, noCounts, countsIn}
 use Rattle.state.specs.Routing.{fits, routeOf}
+use Rattle.state.specs.Compared.{comparedFor}
 use Rattle.state.specs.SetTimes.{setsRight}
 use Rattle.state.specs.Bounds.{sameFilter, settingsRight, fileRight, stateRight}
 use Rattle.settings.specs.Settings.{routesIn, wrongShape, beyondRange, equalFilters, wrongSets, setTimesFrom, freshOf}
@@ -74,7 +75,7 @@ Filed =
     × (said (filed events) 8 ≡ 0 ∷ 0 ∷ 9 ∷ countOctets 0 0)
 
 pub files : Filed
-unfolding wordsOf managerIn routeIn openOn closeOn receiveOn timestampOf wordOf dateFrom monthDays fileOctets fixedOctets recordsOctets recordOctets highest lowest freshOf settingsVerdict routesIn wrongShape beyondRange equalFilters wrongSets setTimesFrom settingsRight sameFilter stateRight setsRight fileRight fits routeOf openOf closeOf receiveOf closedFile splice answerOf entryOf
+unfolding wordsOf managerIn routeIn openOn closeOn receiveOn timestampOf wordOf dateFrom monthDays fileOctets fixedOctets recordsOctets recordOctets highest lowest freshOf settingsVerdict routesIn wrongShape beyondRange equalFilters wrongSets setTimesFrom settingsRight sameFilter stateRight setsRight fileRight fits routeOf comparedFor openOf closeOf receiveOf closedFile splice answerOf entryOf
 files = (refl, refl, refl, refl)
 
 -- A counter at its end, or one below it, in the words of the fresh manager (words, Words.antt): the manager's unrouted records are
@@ -86,10 +87,10 @@ abbrev told : ℕ → ℕ → ℕ → Answer
 told word n mark = receiveOn (set fresh word n) store [] 0 (arrival mark) [] [] .answer
 
 abbrev unrouted : Answer
-unrouted = answered 4 255 0 0
+unrouted = answered 4 255 0 0 0
 
 abbrev lost : Answer
-lost = answered 3 0 0 0
+lost = answered 3 0 0 0 0
 
 abbrev pub Full : Type 0
 Full =
@@ -103,5 +104,5 @@ Full =
     × (told 7 last 1 ≡ lost) × (told 19 last 1 ≡ lost)
 
 pub full : Full
-unfolding wordsOf managerIn routeIn receiveOn freshOf settingsVerdict routesIn wrongShape beyondRange equalFilters wrongSets setTimesFrom settingsRight sameFilter stateRight setsRight fileRight fits routeOf receiveOf
+unfolding wordsOf managerIn routeIn receiveOn freshOf settingsVerdict routesIn wrongShape beyondRange equalFilters wrongSets setTimesFrom settingsRight sameFilter stateRight setsRight fileRight fits routeOf comparedFor receiveOf
 full = (refl, refl, refl, refl, refl, refl, refl, refl, refl, refl)

@@ -245,7 +245,7 @@ Answers =
     (first ((16 when false) ∷ (4 when true) ∷ (5 when true) ∷ []) ≡ 4)
     × (first ((16 when true) ∷ (4 when false) ∷ (5 when true) ∷ []) ≡ 16)
     × (first ((16 when false) ∷ (4 when false) ∷ (5 when false) ∷ []) ≡ 0)
-    × (answered 2 1 3 61 ≡ record { refusal = 0; outcome = 2; route = 1; files = 3; octets = 61 })
+    × (answered 2 1 3 61 9 ≡ record { refusal = 0; outcome = 2; route = 1; files = 3; compared = 9; octets = 61 })
 
 pub answers : Answers
 answers = (refl, refl, refl, refl)

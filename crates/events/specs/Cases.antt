@@ -141,10 +141,10 @@ module _ (m : Manager) (store output : List ℕ) (time route : ℕ) where
 
   -- what the code puts together is what is to be
   pub opened-made : {t : ℕ} {q r : Route} → t ≡ effective m time → q ≡ routeAt m route → r ≡ openedRoute q t
-      → after (changed m t route r 1 0 0) store output ≡ opened m store output time route
+      → after (changed m t route r 1 0 0 0) store output ≡ opened m store output time route
   opened-made {t} et eq er =
-      (λ i. after (changed m t route (er i) 1 0 0) store output)
-      ∙ (λ i. after (changed m (et i) route (openedRoute (eq i) (et i)) 1 0 0) store output)
+      (λ i. after (changed m t route (er i) 1 0 0 0) store output)
+      ∙ (λ i. after (changed m (et i) route (openedRoute (eq i) (et i)) 1 0 0 0) store output)
 
 -- the route is there
 pub open-there : (m : Manager) (octets time route : ℕ) → first (openRules m octets time route) ≡ 0 → route < 8
@@ -187,10 +187,10 @@ module _ (m : Manager) (store output : List ℕ) (time route reason : ℕ) where
   -- what the code puts together is what is to be
   pub closed-made : {t size : ℕ} {q r : Route} {out : List ℕ} → t ≡ effective m time → q ≡ routeAt m route → size ≡ closedSize q → r ≡ closedRoute q
       → out ≡ splice output 0 (closedFile m store route reason)
-      → after (changed m t route r 5 1 size) store out ≡ closed m store output time route reason
+      → after (changed m t route r 5 1 size 0) store out ≡ closed m store output time route reason
   closed-made {t} {size} {q} {r} et eq es er eo =
-      (λ i. after (changed m (et i) route (er i) 5 1 (es i)) store (eo i))
-      ∙ (λ i. after (changed m (effective m time) route (closedRoute (eq i)) 5 1 (closedSize (eq i))) store (splice output 0 (closedFile m store route reason)))
+      (λ i. after (changed m (et i) route (er i) 5 1 (es i) 0) store (eo i))
+      ∙ (λ i. after (changed m (effective m time) route (closedRoute (eq i)) 5 1 (closedSize (eq i)) 0) store (splice output 0 (closedFile m store route reason)))
 
 -- reasons that CLOSE may give are octets
 allowed-octet : (reason : ℕ) → allowed reason ≡ true → reason < 256

@@ -32,7 +32,7 @@ after o store output = record { outcome = o; store = store; output = output }
 
 -- a refusal carries its number and zeros elsewhere, but 17 the needed octets; state, store and output stay
 abbrev pub refusalOf : ℕ → ℕ → Answer
-refusalOf number needed = record { refusal = number; outcome = 0; route = 0; files = 0; octets = cond (eqb number 17) needed 0 }
+refusalOf number needed = record { refusal = number; outcome = 0; route = 0; files = 0; compared = 0; octets = cond (eqb number 17) needed 0 }
 
 abbrev pub refused : ℕ → ℕ → Manager → Outcome
 refused number needed m = record { answer = refusalOf number needed; manager = m }
@@ -41,14 +41,15 @@ abbrev pub settled : ℕ → ℕ → Manager → List ℕ → List ℕ → After
 settled zero needed m store output done = done
 settled (suc n) needed m store output done = after (refused (suc n) needed m) store output
 
--- an accepted event's answer
-abbrev pub answered : ℕ → ℕ → ℕ → ℕ → Answer
-answered outcome route files octets = record { refusal = 0; outcome = outcome; route = route; files = files; octets = octets }
+-- an accepted event's answer; `compared` are the octets of filters that RECEIVE compared, of which the others compare none (document 02, ask 7)
+abbrev pub answered : ℕ → ℕ → ℕ → ℕ → ℕ → Answer
+answered outcome route files octets compared =
+    record { refusal = 0; outcome = outcome; route = route; files = files; compared = compared; octets = octets }
 
 -- an accepted event at time t that leaves the route i as r
-abbrev pub changed : Manager → ℕ → ℕ → Route → ℕ → ℕ → ℕ → Outcome
-changed m t i r outcome files octets =
-    record { answer = answered outcome i files octets; manager = withTime (withRoute m i r) t }
+abbrev pub changed : Manager → ℕ → ℕ → Route → ℕ → ℕ → ℕ → ℕ → Outcome
+changed m t i r outcome files octets compared =
+    record { answer = answered outcome i files octets compared; manager = withTime (withRoute m i r) t }
 
 -- OPEN
 abbrev pub openRules : Manager → ℕ → ℕ → ℕ → List Rule
@@ -60,7 +61,7 @@ openRules m store time route =
 
 abbrev pub opened : Manager → List ℕ → List ℕ → ℕ → ℕ → After
 opened m store output time route =
-    after (changed m (effective m time) route (openedRoute (routeAt m route) (effective m time)) 1 0 0) store output
+    after (changed m (effective m time) route (openedRoute (routeAt m route) (effective m time)) 1 0 0 0) store output
 
 unfoldable pub openOf : Manager → List ℕ → List ℕ → ℕ → ℕ → After
 openOf m store output time route =
@@ -79,7 +80,7 @@ closeRules m store output time route reason =
 abbrev pub closed : Manager → List ℕ → List ℕ → ℕ → ℕ → ℕ → After
 closed m store output time route reason =
     after
-    (changed m (effective m time) route (closedRoute (routeAt m route)) 5 1 (closedSize (routeAt m route)))
+    (changed m (effective m time) route (closedRoute (routeAt m route)) 5 1 (closedSize (routeAt m route)) 0)
     store
     (splice output 0 (closedFile m store route reason))
 
@@ -131,7 +132,7 @@ abbrev pub ticked : Manager → List ℕ → List ℕ → ℕ → After
 ticked m store output time =
     after
     (record {
-      answer = answered 6 255 (upTo m store (effective m time) (m .count) .files) (dueSize m (effective m time) (m .count));
+      answer = answered 6 255 (upTo m store (effective m time) (m .count) .files) (dueSize m (effective m time) (m .count)) 0;
       manager = withTime (upTo m store (effective m time) (m .count) .manager) (effective m time);
     })
     store

@@ -22,7 +22,7 @@ use Rattle.state.specs.Routing.{nobody, routeOf}
 use Rattle.state.specs.Within.{within}
 use Rattle.words.specs.Laws.{HeldRelease, HeldRoute, Held, held-route}
 use Rattle.events.specs.declared.Arrival.{Arrival}
-use Rattle.events.specs.Rules.{openedRoute, closedRoute, lostRoute, notedRoute, appendedRoute, full, wrongFields, headerFor, recordSize, routedTo}
+use Rattle.events.specs.Rules.{openedRoute, closedRoute, lostRoute, notedRoute, appendedRoute, full, wrongFields, headerFor, recordSize, routedTo, comparedTo}
 use Rattle.events.specs.Events.{After, settled, opened, openRules, openOf, closed, closeRules, closeOf, ends, closing, upTo, ticked, tickRules, tickOf}
 use Rattle.state.specs.Common.{common}
 use Rattle.events.specs.Receive.{isLost, turns, holding, finished, countersFull, needed, noted, lostAt, placedAt, unrouted, taken, receiveRules, receiveOf}
@@ -157,7 +157,7 @@ module _ {m : Manager} (h : Held m) (store output : List ℕ) (time : ℕ) where
         go true e = absurd (true≢false (sym f ∙ (λ i. cond (e i) nobody (routeOf m key) .found)))
         go false e = e
 
-    placed-held : (i : ℕ) → effective m time < 2147483648 → HeldRelease (headerFor a .release) → Held (placedAt m store output (effective m time) a body i .outcome .manager)
+    placed-held : (i : ℕ) → effective m time < 2147483648 → HeldRelease (headerFor a .release) → Held (placedAt m store output (effective m time) a body i (comparedTo m a key) .outcome .manager)
     placed-held i early g = held-changed h i (effective m time) (finished (routeAt m i) a (length body) (effective m time)) (λ there. done (h .routes i there))
       where
         done : HeldRoute (routeAt m i) → HeldRoute (finished (routeAt m i) a (length body) (effective m time))
@@ -177,7 +177,7 @@ module _ {m : Manager} (h : Held m) (store output : List ℕ) (time : ℕ) where
         to = routedTo m a key .at
 
         lost-or : first (receiveRules m (length store) (length output) time a key (length body)) ≡ 0 → eqb (a .mark) 2 ≡ false → (b : Bool) → isLost m a to (length body) ≡ b
-            → Held (cond b (lostAt m store output (effective m time) to) (placedAt m store output (effective m time) a body to) .outcome .manager)
+            → Held (cond b (lostAt m store output (effective m time) to (comparedTo m a key)) (placedAt m store output (effective m time) a body to (comparedTo m a key)) .outcome .manager)
         lost-or e two true q = held-changed h to (effective m time) (lostRoute (routeAt m to)) (λ there. held-lost (h .routes to there))
         lost-or e two false q =
             let rs = (19 when countersFull m a key (length body)) ∷ (17 when ltb (length output) (needed m a key (length body) (effective m time))) ∷ [] in
@@ -188,11 +188,14 @@ module _ {m : Manager} (h : Held m) (store output : List ℕ) (time : ℕ) where
             let l = or-false (eqb (a .mark) 1 || ltb 65534 (length body)) big q in
             placed-held to (c .0) (usable a (length key) (length body) (ltb 65534 (length body)) (w .0) low (l .0) two)
 
+        done : Bool → After
+        done b =
+            cond b (cond (isLost m a to (length body)) (lostAt m store output (effective m time) to (comparedTo m a key)) (placedAt m store output (effective m time) a body to (comparedTo m a key)))
+            (unrouted m store output (effective m time) (comparedTo m a key))
+
         found : first (receiveRules m (length store) (length output) time a key (length body)) ≡ 0 → (b : Bool) → routedTo m a key .found ≡ b
-            → Held (taken m store output (effective m time) a key body .outcome .manager)
-        found e true f =
-            subst (λ (b : Bool). Held (cond b (cond (isLost m a to (length body)) (lostAt m store output (effective m time) to) (placedAt m store output (effective m time) a body to)) (unrouted m store output (effective m time)) .outcome .manager)) (sym f)
-            (lost-or e (trusted f) (isLost m a to (length body)) refl)
+            → Held (done (routedTo m a key .found) .outcome .manager)
+        found e true f = subst (λ (b : Bool). Held (done b .outcome .manager)) (sym f) (lost-or e (trusted f) (isLost m a to (length body)) refl)
         found e false f =
-            subst (λ (b : Bool). Held (cond b (cond (isLost m a to (length body)) (lostAt m store output (effective m time) to) (placedAt m store output (effective m time) a body to)) (unrouted m store output (effective m time)) .outcome .manager)) (sym f)
+            subst (λ (b : Bool). Held (done b .outcome .manager)) (sym f)
             (record { eight = noted-held (m .count) .eight; routes = noted-held (m .count) .routes; address = h .address; sets = h .sets })

@@ -7,3 +7,4 @@ pub mod Ways
 pub mod Cases
 pub mod Held
 pub mod Unchanged
+pub mod Work

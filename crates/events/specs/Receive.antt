@@ -16,7 +16,7 @@ use Rattle.state.specs.Manager.{routeAt, base, effective, withRoute}
 use Rattle.state.specs.Loss.{lost}
 use Rattle.filing.specs.Closing.{closedFile, closedSize}
 use Rattle.events.specs.declared.Arrival.{Arrival}
-use Rattle.events.specs.Rules.{openedRoute, closedRoute, lostRoute, notedRoute, appendedRoute, differs, exceeds, full, wrongFields, headerFor, recordSize, routedTo}
+use Rattle.events.specs.Rules.{openedRoute, closedRoute, lostRoute, notedRoute, appendedRoute, differs, exceeds, full, wrongFields, headerFor, recordSize, routedTo, comparedTo}
 use Rattle.events.specs.Events.{After, after, answered, changed, settled}
 use Rattle.state.specs.Common.{common}
 
@@ -104,23 +104,23 @@ abbrev pub noted : Manager → ℕ → List Route
 noted m zero = m .routes
 noted m (suc n) = set (noted m n) n (notedRoute (routeAt m n))
 
-abbrev pub unrouted : Manager → List ℕ → List ℕ → ℕ → After
-unrouted m store output t =
+abbrev pub unrouted : Manager → List ℕ → List ℕ → ℕ → ℕ → After
+unrouted m store output t compared =
     after
     (record {
-      answer = answered 4 255 0 0;
+      answer = answered 4 255 0 0 compared;
       manager = record { routes = noted m (m .count); count = m .count; address = m .address; bias = m .bias; last = t; unrouted = m .unrouted + 1; setTimes = m .setTimes };
     })
     store output
 
-abbrev pub lostAt : Manager → List ℕ → List ℕ → ℕ → ℕ → After
-lostAt m store output t i =
-    after (changed m t i (lostRoute (routeAt m i)) 3 0 0) store output
+abbrev pub lostAt : Manager → List ℕ → List ℕ → ℕ → ℕ → ℕ → After
+lostAt m store output t i compared =
+    after (changed m t i (lostRoute (routeAt m i)) 3 0 0 compared) store output
 
-abbrev pub placedAt : Manager → List ℕ → List ℕ → ℕ → Arrival → List ℕ → ℕ → After
-placedAt m store output t a body i =
+abbrev pub placedAt : Manager → List ℕ → List ℕ → ℕ → Arrival → List ℕ → ℕ → ℕ → After
+placedAt m store output t a body i compared =
     after
-    (changed m t i (finished (routeAt m i) a (length body) t) 2 (placedFiles (routeAt m i) a (length body) t) (placedSize (routeAt m i) a (length body) t))
+    (changed m t i (finished (routeAt m i) a (length body) t) 2 (placedFiles (routeAt m i) a (length body) t) (placedSize (routeAt m i) a (length body) t) compared)
     (storeWith m store i a body t)
     (splice output 0 (turnedFile m store i a (length body) ++ filledFile m store i a body t))
 
@@ -128,9 +128,9 @@ abbrev pub taken : Manager → List ℕ → List ℕ → ℕ → Arrival → Lis
 taken m store output t a key body =
     cond (routedTo m a key .found)
     (cond (isLost m a (routedTo m a key .at) (length body))
-    (lostAt m store output t (routedTo m a key .at))
-    (placedAt m store output t a body (routedTo m a key .at)))
-    (unrouted m store output t)
+    (lostAt m store output t (routedTo m a key .at) (comparedTo m a key))
+    (placedAt m store output t a body (routedTo m a key .at) (comparedTo m a key)))
+    (unrouted m store output t (comparedTo m a key))
 
 unfoldable pub receiveOf : Manager → List ℕ → List ℕ → ℕ → Arrival → List ℕ → List ℕ → After
 receiveOf m store output time a key body =

@@ -16,6 +16,7 @@ use Rattle.state.specs.Manager.{noFile}
 use Rattle.state.specs.Size.{headerSize}
 use Rattle.state.specs.Bounds.{sameRelease}
 use Rattle.state.specs.Routing.{nobody, routeOf}
+use Rattle.state.specs.Compared.{comparedFor}
 use Rattle.events.specs.declared.Arrival.{Arrival}
 
 -- an opening takes the next sequence number, and the number after 4,294,967,295 is 0; an empty file has the configured release
@@ -133,3 +134,7 @@ recordSize a body = headerLength (headerFor a .release) + body
 -- where a record goes: mark 2 says that nothing is to be trusted
 abbrev pub routedTo : Manager → Arrival → List ℕ → Routed
 routedTo m a key = cond (eqb (a .mark) 2) nobody (routeOf m key)
+
+-- and the octets of filters that are compared for it (document 02, ask 7)
+abbrev pub comparedTo : Manager → Arrival → List ℕ → ℕ
+comparedTo m a key = cond (eqb (a .mark) 2) 0 (comparedFor m key)

@@ -15,7 +15,7 @@ use Rattle.filing.specs.Closing.{closedSize}
 use Rattle.words.specs.Words.{managerIn, wordsOf}
 use Rattle.words.specs.Laws.{words-words}
 use Rattle.events.specs.declared.Arrival.{Arrival}
-use Rattle.events.specs.Rules.{routedTo}
+use Rattle.events.specs.Rules.{routedTo, comparedTo}
 use Rattle.events.specs.Events.{After, settled, openRules, opened, openOf, closeRules, closed, closeOf, dueSize, tickRules, ticked, tickOf}
 use Rattle.events.specs.Receive.{isLost, needed, receiveRules, lostAt, placedAt, unrouted, taken, receiveOf}
 use Rattle.events.specs.Lent.{Left, left, worded, unlike, lent, openOn, closeOn, tickOn, receiveOn}
@@ -76,8 +76,9 @@ module _ (words store output : List ℕ) (time : ℕ) where
   receive-unchanged a key body =
       let t = effective m time in
       let i = routedTo m a key .at in
-      let found = cond (isLost m a i (length body)) (lostAt m store output t i) (placedAt m store output t a body i) in
-      let zero = either-zero (isLost m a i (length body)) (lostAt m store output t i) (placedAt m store output t a body i) refl refl in
+      let n = comparedTo m a key in
+      let found = cond (isLost m a i (length body)) (lostAt m store output t i n) (placedAt m store output t a body i n) in
+      let zero = either-zero (isLost m a i (length body)) (lostAt m store output t i n) (placedAt m store output t a body i n) refl refl in
       unchanged words store output (λ (q : Manager). receiveOf q store output time a key body)
       (kept (first (receiveRules m (length store) (length output) time a key (length body))) (needed m a key (length body) t) m store output (taken m store output t a key body)
-      (either-zero (routedTo m a key .found) found (unrouted m store output t) zero refl))
+      (either-zero (routedTo m a key .found) found (unrouted m store output t n) zero refl))

@@ -33,10 +33,10 @@ module _ (words store output : List ℕ) (event : Manager → After) where
     way-refused n needed {store′ = store′} {output′ = output′} p q = (λ i. left (p i) (sym (words-words words e) i) store′ output′) ∙ right-number q
 
     -- accepted: one route and the time are others
-    pub way-changed : (i : ℕ) → i < 8 → (r : Route) → r .settings ≡ settingsAt (managerIn words) i → (t outcome files octets : ℕ)
-        → {answer : Answer} {words′ store′ output′ : List ℕ} → answer ≡ answered outcome i files octets
+    pub way-changed : (i : ℕ) → i < 8 → (r : Route) → r .settings ≡ settingsAt (managerIn words) i → (t outcome files octets compared : ℕ)
+        → {answer : Answer} {words′ store′ output′ : List ℕ} → answer ≡ answered outcome i files octets compared
         → words′ ≡ set (splice words (17 + 19 * i) (changingWords r [])) 6 t
-        → after (changed (managerIn words) t i r outcome files octets) store′ output′ ≡ event (managerIn words)
+        → after (changed (managerIn words) t i r outcome files octets compared) store′ output′ ≡ event (managerIn words)
         → left answer words′ store′ output′ ≡ lent words store output event
-    way-changed i h r s t outcome files octets {store′ = store′} {output′ = output′} p q z =
+    way-changed i h r s t outcome files octets compared {store′ = store′} {output′ = output′} p q z =
         (λ j. left (p j) ((q ∙ left-words words e i h r s t) j) store′ output′) ∙ right-number z

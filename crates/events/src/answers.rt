@@ -4,14 +4,15 @@ ghost use Rattle.events.specs.Events.{answered, refusalOf};
 use crate::Answer;
 
 // An accepted event's answer.
-pub fn accept(outcome: u8, route: u8, files: u8, octets: usize) -> Answer
-    ensures { λ r. ⌜ r ≡ answered outcome route files octets ⌝ }
+pub fn accept(outcome: u8, route: u8, files: u8, octets: usize, compared: u8) -> Answer
+    ensures { λ r. ⌜ r ≡ answered outcome route files octets compared ⌝ }
 {
     Answer {
         refusal: 0,
         outcome: outcome,
         route: route,
         files: files,
+        compared: compared,
         octets: octets,
     }
 }
@@ -26,6 +27,7 @@ pub fn refuse(number: u8, needed: usize) -> Answer
         outcome: 0,
         route: 0,
         files: 0,
+        compared: 0,
         octets: octets,
     }
 }

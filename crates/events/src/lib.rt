@@ -15,14 +15,15 @@ pub use routes::opened_route;
 pub use sets::is_met;
 
 // What an event answers: refusal 0 with the outcome (1 opened, 2 placed, 3 lost, 4 unrouted, 5 closed, 6 ticked), the route (255
-// for 4 and 6), the number of files closed and the octets written to the output; or a refusal with zeros, but 17 with the
-// needed octets.
+// for 4 and 6), the number of files closed, the octets of filters that RECEIVE compared (document 02, ask 7) and the octets written to
+// the output; or a refusal with zeros, but 17 with the needed octets.
 #[repr(C)]
 pub struct Answer {
     pub refusal: u8,
     pub outcome: u8,
     pub route: u8,
     pub files: u8,
+    pub compared: u8,
     pub octets: usize,
 }
 

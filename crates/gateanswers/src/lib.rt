@@ -55,7 +55,7 @@ pub fn print_settings(page: &mut [u8], p: Printer, refusal: u8, routes: usize) -
 pub fn print_answer(page: &mut [u8], p: Printer, answer: Answer) -> Printer {
     let a = put_start(page, p, b'A', answer.refusal as u64, answer.outcome as u64);
     let b = put_fields(page, a, answer.route as u64, answer.files as u64);
-    let c = put_field(page, b, answer.octets as u64);
+    let c = put_fields(page, b, answer.octets as u64, answer.compared as u64);
     put_end(page, c)
 }
 

@@ -4,18 +4,18 @@
 -- length and content, and any list of OPEN, CLOSE, TICK and RECEIVE, refused ones included, with any clock and any output lent to each.
 -- Run the manager on the list, each event on the words of the state that the one before left, and keep the ledger of document 01 beside
 -- it, which is fed the settings, the store's length and each event's arguments and output length, and nothing of the manager. Then every
--- answer is the ledger's, and 18 never comes. The outcome of an event is 3, lost, exactly when it is an accepted RECEIVE that is routed
--- and that the loss rule calls lost there. Each event's output keeps its length, begins with the files that the ledger closes at that
--- event, one behind another, and its other octets are as lent: all of them if none closes or the event is refused. Each file closes on a
--- configured route. For each route the records received, counted in the list by the routing rule, are those in its closed files, as the
--- reader counts them, those in its open file, as the state counts them, and those lost, counted in the list by the loss rule. The other
--- received records stand in its closed files in order of closing and then in the open file's part of the store, in order of receipt,
--- octet for octet. Every closed file is accepted by the reader, with the fields and records that the ledger gives, and its private octets
--- are the loss counts of document 02, ask 3. For each route the known losses that the reader finds in those of its closed files, and
--- those pending in the state, are its lost records, counted in the list by the loss rule; the unrouted records that it finds there, and
--- the route's pending ones, are the unrouted records of the list. Open count, loss counters and unrouted counters in the state are the
--- ledger's; its received and lost records are those counted in the list, and the accepted unrouted records of the list number the
--- unrouted counter.
+-- answer is the ledger's, with the octets of filters that were compared (document 02, ask 7), and 18 never comes. The outcome of an event
+-- is 3, lost, exactly when it is an accepted RECEIVE that is routed and that the loss rule calls lost there. Each event's output keeps
+-- its length, begins with the files that the ledger closes at that event, one behind another, and its other octets are as lent: all of
+-- them if none closes or the event is refused. Each file closes on a configured route. For each route the records received, counted in
+-- the list by the routing rule, are those in its closed files, as the reader counts them, those in its open file, as the state counts
+-- them, and those lost, counted in the list by the loss rule. The other received records stand in its closed files in order of closing
+-- and then in the open file's part of the store, in order of receipt, octet for octet. Every closed file is accepted by the reader, with
+-- the fields and records that the ledger gives, and its private octets are the loss counts of document 02, ask 3. For each route the
+-- known losses that the reader finds in those of its closed files, and those pending in the state, are its lost records, counted in the
+-- list by the loss rule; the unrouted records that it finds there, and the route's pending ones, are the unrouted records of the list.
+-- Open count, loss counters and unrouted counters in the state are the ledger's; its received and lost records are those counted in the
+-- list, and the accepted unrouted records of the list number the unrouted counter.
 --
 -- `loadedOf`, `openOn`, `closeOn`, `tickOn` and `receiveOn`, of which `leaves` and `runOf` are made, are the definitions that the
 -- contracts of the calls cite; `managerIn` says what words stand for. Assumes nothing.

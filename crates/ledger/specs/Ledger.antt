@@ -1,4 +1,4 @@
--- The ledger (document 01, The ledger of demand 3; document 02, asks 3 and 6). It is fed the settings, the store's length, and each
+-- The ledger (document 01, The ledger of demand 3; document 02, asks 3, 6 and 7). It is fed the settings, the store's length, and each
 -- event's arguments and output length: no answers, nothing of the manager's state, no octets of the store. Records are records and files
 -- are files: it holds the last time, the number of unrouted records and for each route how many records were received and lost (without
 -- bound), the next sequence number, known losses and unrouted records since its last file closed, its closed files, and its open file if
@@ -13,7 +13,7 @@ use mathlib.Core.Bool.{Bool, true, false, cond, not, _&&_, _||_}
 use mathlib.Core.List.{List, [], _∷_, _++_}
 use Prim.Native.Nat.{ℕ, zero, suc, _+_, _-_, _%_, _^_, max}
 use lib.Dec.{ltb, leb, eqb}
-use lib.ListN.{length, getD, set}
+use lib.ListN.{length, getD, set, take}
 use Rattle.refusals.specs.Refusal.{Rule, _when_, first}
 use Rattle.timestamp.specs.LocalTime.{timestampOf}
 use Rattle.record.specs.declared.Release.{Release}
@@ -312,6 +312,20 @@ amongLines l key (suc n) = better (amongLines l key n) n (lineAt l n .settings) 
 abbrev pub routedTo : Ledger → Arrival → List ℕ → Routed
 routedTo l a key = cond (eqb (a .mark) 2) nobody (amongLines l key (length (l .lines)))
 
+-- the octets of filters that are compared for that (document 02, ask 7): from the first on as far as they are the same, and the one that
+-- differs; a filter that is longer than the key is passed over. Nothing is compared with a key that is not to be trusted
+abbrev pub stepsTo : List ℕ → List ℕ → ℕ
+stepsTo [] key = 0
+stepsTo (x ∷ filter) [] = 0
+stepsTo (x ∷ filter) (y ∷ key) = cond (eqb x y) (suc (stepsTo filter key)) 1
+
+abbrev pub comparedOn : RouteSettings → List ℕ → ℕ
+comparedOn s key = cond (ltb (length key) (s .octets)) 0 (stepsTo (take (s .octets) (s .filter)) key)
+
+abbrev pub comparedLines : List Line → List ℕ → ℕ
+comparedLines [] key = 0
+comparedLines (x ∷ xs) key = comparedOn (x .settings) key + comparedLines xs key
+
 abbrev pub lostBy : RouteSettings → Arrival → ℕ → Bool
 lostBy s a body = lost (s .limit) (s .octets) (a .mark) (headerFor a .release) body
 
@@ -480,11 +494,17 @@ routeOf l (CLOSE time i reason) = i
 routeOf l (TICK time) = 255
 routeOf l (RECEIVE time a key body) = cond (routedTo l a key .found) (routedTo l a key .at) 255
 
+abbrev pub comparedOf : Ledger → Event → ℕ
+comparedOf l (OPEN time i) = 0
+comparedOf l (CLOSE time i reason) = 0
+comparedOf l (TICK time) = 0
+comparedOf l (RECEIVE time a key body) = cond (eqb (a .mark) 2) 0 (comparedLines (l .lines) key)
+
 abbrev pub answerBy : ℕ → Ledger → Event → Answer
 answerBy zero l e =
-    answered (outcomeOf l e) (routeOf l e) (length (carried l (effective l e) e .closings)) (neededBy l e)
+    answered (outcomeOf l e) (routeOf l e) (length (carried l (effective l e) e .closings)) (neededBy l e) (comparedOf l e)
 answerBy (suc n) l e =
-    record { refusal = suc n; outcome = 0; route = 0; files = 0; octets = cond (eqb (suc n) 17) (neededBy l e) 0 }
+    record { refusal = suc n; outcome = 0; route = 0; files = 0; compared = 0; octets = cond (eqb (suc n) 17) (neededBy l e) 0 }
 
 abbrev pub entryBy : ℕ → Ledger → Event → Entry
 entryBy zero l e = carried l (effective l e) e

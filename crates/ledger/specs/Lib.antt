@@ -9,6 +9,7 @@ pub mod Files
 pub mod Lines
 pub mod Regions
 pub mod Words
+pub mod Compares
 pub mod Books
 pub mod Listed
 pub mod Refusals

@@ -135,9 +135,9 @@ module _ {store : List ℕ} {m : Manager} {l : Ledger} (a : Agrees store m l) (o
       let size = size-same a i h f (w .1) reason in (
         t,
         time-same a time,
-        subst (λ (y : Entry). Holds store output (closed m store output time i reason) (answered 5 i (length (y .closings)) (lengths (y .closings))) y) (sym booked)
+        subst (λ (y : Entry). Holds store output (closed m store output time i reason) (answered 5 i (length (y .closings)) (lengths (y .closings)) 0) y) (sym booked)
             (record {
-              answers = λ j. answered 5 i 1 ((size ∙ sym (add-zero (length (layout file)))) j);
+              answers = λ j. answered 5 i 1 ((size ∙ sym (add-zero (length (layout file)))) j) 0;
               agrees =
                   agrees-with a i (closedRoute (routeAt m i)) (closeLine (lineAt l i) file) t h (close-agrees (a .lines i h) file) refl
                   (state-kept a i (closedRoute (routeAt m i)) t h refl right (v .0) (v .1)) (λ j k z. a .lines j k);

@@ -22,7 +22,7 @@ use Rattle.state.specs.Routing.{nobody}
 use Rattle.state.specs.Bounds.{stateRight}
 use Rattle.events.specs.declared.Answer.{Answer}
 use Rattle.events.specs.declared.Arrival.{Arrival}
-use Rattle.events.specs.Rules.{wrongFields, headerFor, recordSize}
+use Rattle.events.specs.Rules.{wrongFields, headerFor, recordSize, comparedTo}
 use Rattle.events.specs.Events.{After, answered}
 use Rattle.events.specs.Receive.{recordOf, isLost, placedSize, needed, receiveRules, lostAt, placedAt, unrouted, taken, receiveOf}
 use Rattle.events.specs.Receive.{canNote, unroutedFull}
@@ -37,6 +37,7 @@ use Rattle.ledger.specs.Regions.{regions-same}
 use Rattle.ledger.specs.Books.{routed-below, can-note, none-full}
 use Rattle.ledger.specs.Words.{fields-same}
 use Rattle.ledger.specs.Refusals.{routes-same}
+use Rattle.ledger.specs.Compares.{compared-same}
 use Rattle.ledger.specs.Steps.{Holds, answerAt, event-holds, common-passed, effective-right, time-same}
 use Rattle.ledger.specs.StepUnrouted.{unrouted-holds, lost-holds}
 use Rattle.ledger.specs.StepPlaced.{placed, placed-long, length-joined}
@@ -93,11 +94,11 @@ record Routing (m : Manager) (v : Arrival) (i : ℕ) : Type 0 where
   unmarked : v .mark ≡ 2 → ⊥
 
 module _ {store : List ℕ} {m : Manager} {l : Ledger} (a : Agrees store m l) (output : List ℕ) (t : ℕ) (later : m .last ≤ t) (most : t ≤ 52595999)
-    (room : regions m ≤ length store) (v : Arrival) (key : ℕ) (body : List ℕ) (fields : wrongFields v key ≡ false) (octet : v .extension < 256) (octets : Octets body) where
+    (room : regions m ≤ length store) (v : Arrival) (key : ℕ) (body : List ℕ) (fields : wrongFields v key ≡ false) (octet : v .extension < 256) (octets : Octets body) {k n : ℕ} (same : k ≡ n) where
   -- a record that is routed and not lost
   placed-at : (i : ℕ) → Routing m v i → isLost m v i (length body) ≡ false
-      → Took store output (placedSize (routeAt m i) v (length body) t) (placedAt m store output t v body i)
-      (answered 2 i (length (places l t i (recordOf v body) .closings)) (lengths (places l t i (recordOf v body) .closings))) (places l t i (recordOf v body))
+      → Took store output (placedSize (routeAt m i) v (length body) t) (placedAt m store output t v body i k)
+      (answered 2 i (length (places l t i (recordOf v body) .closings)) (lengths (places l t i (recordOf v body) .closings)) n) (places l t i (recordOf v body))
   placed-at i w e =
       let limit = settingsAt m i .limit in
       let size = aloneSize (settingsAt m i .octets) (headerFor v .release) (recordSize v (length body)) in
@@ -112,7 +113,7 @@ module _ {store : List ℕ} {m : Manager} {l : Ledger} (a : Agrees store m l) (o
         sizes = sizes;
         holds = λ fits.
             record {
-              answers = λ j. answered 2 i (counts j) (sizes j);
+              answers = λ j. answered 2 i (counts j) (sizes j) (same j);
               agrees = p .agrees;
               long = placed-long a i (w .below) t later most room v body right (ltb-false limit size (e3 .1));
               writes = ap (splice output 0) (p .joins);
@@ -126,9 +127,9 @@ module _ {store : List ℕ} {m : Manager} {l : Ledger} (a : Agrees store m l) (o
   routedEntry i b = cond b (loses l t i) (places l t i (recordOf v body))
 
   routed-by : (i : ℕ) → Routing m v i → (b : Bool) → isLost m v i (length body) ≡ b
-      → Took store output (cond (true && not b) (placedSize (routeAt m i) v (length body) t) 0) (cond b (lostAt m store output t i) (placedAt m store output t v body i))
-      (answered (cond b 3 2) i (length (routedEntry i b .closings)) (lengths (routedEntry i b .closings))) (routedEntry i b)
-  routed-by i w true e = record { sizes = refl; holds = λ fits. lost-holds a output t later most i (w .below) }
+      → Took store output (cond (true && not b) (placedSize (routeAt m i) v (length body) t) 0) (cond b (lostAt m store output t i k) (placedAt m store output t v body i k))
+      (answered (cond b 3 2) i (length (routedEntry i b .closings)) (lengths (routedEntry i b .closings)) n) (routedEntry i b)
+  routed-by i w true e = record { sizes = refl; holds = λ fits. lost-holds a output t later most i (w .below) same }
   routed-by i w false e = placed-at i w e
 
   lost-same : (i : ℕ) → Routing m v i → isLost m v i (length body) ≡ lostBy (lineAt l i .settings) v (length body)
@@ -136,15 +137,15 @@ module _ {store : List ℕ} {m : Manager} {l : Ledger} (a : Agrees store m l) (o
 
   routed-at : (i : ℕ) → Routing m v i
       → Took store output (cond (true && not (isLost m v i (length body))) (placedSize (routeAt m i) v (length body) t) 0)
-      (cond (isLost m v i (length body)) (lostAt m store output t i) (placedAt m store output t v body i))
+      (cond (isLost m v i (length body)) (lostAt m store output t i k) (placedAt m store output t v body i k))
       (answered (cond (lostBy (lineAt l i .settings) v (length body)) 3 2) i (length (routedEntry i (lostBy (lineAt l i .settings) v (length body)) .closings))
-      (lengths (routedEntry i (lostBy (lineAt l i .settings) v (length body)) .closings)))
+      (lengths (routedEntry i (lostBy (lineAt l i .settings) v (length body)) .closings)) n)
       (routedEntry i (lostBy (lineAt l i .settings) v (length body)))
   routed-at i w =
       subst
       (λ (b : Bool). Took store output (cond (true && not (isLost m v i (length body))) (placedSize (routeAt m i) v (length body) t) 0)
-      (cond (isLost m v i (length body)) (lostAt m store output t i) (placedAt m store output t v body i))
-      (answered (cond b 3 2) i (length (routedEntry i b .closings)) (lengths (routedEntry i b .closings))) (routedEntry i b))
+      (cond (isLost m v i (length body)) (lostAt m store output t i k) (placedAt m store output t v body i k))
+      (answered (cond b 3 2) i (length (routedEntry i b .closings)) (lengths (routedEntry i b .closings)) n) (routedEntry i b))
       (lost-same i w) (routed-by i w (isLost m v i (length body)) refl)
 
   -- any record, by where it goes
@@ -153,18 +154,18 @@ module _ {store : List ℕ} {m : Manager} {l : Ledger} (a : Agrees store m l) (o
 
   abbrev doneAt : Bool → ℕ → After
   doneAt f i =
-      cond f (cond (isLost m v i (length body)) (lostAt m store output t i) (placedAt m store output t v body i)) (unrouted m store output t)
+      cond f (cond (isLost m v i (length body)) (lostAt m store output t i k) (placedAt m store output t v body i k)) (unrouted m store output t k)
 
   abbrev entryAt : Bool → ℕ → Entry
   entryAt f i = cond f (routedEntry i (lostBy (lineAt l i .settings) v (length body))) (unroutes l t)
 
   abbrev answerFor : Bool → ℕ → Answer
   answerFor f i =
-      answered (cond f (cond (lostBy (lineAt l i .settings) v (length body)) 3 2) 4) (cond f i 255) (length (entryAt f i .closings)) (lengths (entryAt f i .closings))
+      answered (cond f (cond (lostBy (lineAt l i .settings) v (length body)) 3 2) 4) (cond f i 255) (length (entryAt f i .closings)) (lengths (entryAt f i .closings)) n
 
   took-by : (f : Bool) (i : ℕ) → (f ≡ true → Routing m v i) → Took store output (neededAt f i) (doneAt f i) (answerFor f i) (entryAt f i)
   took-by true i w = routed-at i (w refl)
-  took-by false i w = record { sizes = refl; holds = λ fits. unrouted-holds a output t later most }
+  took-by false i w = record { sizes = refl; holds = λ fits. unrouted-holds a output t later most same }
 
 -- where the ledger routes a record
 unmarked-by : (v : Arrival) (q : Routed) → cond (eqb (v .mark) 2) nobody q .found ≡ true → v .mark ≡ 2 → ⊥
@@ -237,12 +238,13 @@ module _ {store : List ℕ} {m : Manager} {l : Ledger} (a : Agrees store m l) (o
         let t = effective m time in
         let w = effective-right a time early in
         let q = routedTo l v key in
+        let k = comparedTo m v key in
         subst
         (λ (q : Routed). Took store output (cond (q .found && not (isLost m v (q .at) (length body))) (placedSize (routeAt m (q .at)) v (length body) t) 0)
-        (cond (q .found) (cond (isLost m v (q .at) (length body)) (lostAt m store output t (q .at)) (placedAt m store output t v body (q .at))) (unrouted m store output t))
+        (cond (q .found) (cond (isLost m v (q .at) (length body)) (lostAt m store output t (q .at) k) (placedAt m store output t v body (q .at) k)) (unrouted m store output t k))
         (answerAt l t (RECEIVE time v key body)) (receives l t v key body))
         (sym (routes-same a v key))
-        (took-by a output t (w .0) (w .1) room v (length key) body fields (given .0) (given .1) (q .found) (q .at) (routing a v key))
+        (took-by a output t (w .0) (w .1) room v (length key) body fields (given .0) (given .1) (compared-same a v key) (q .found) (q .at) (routing a v key))
 
     needed-same : needed m v key (length body) (effective m time) ≡ neededBy l (RECEIVE time v key body)
     needed-same = took .sizes ∙ ap (λ (t : ℕ). lengths (receives l t v key body .closings)) (time-same a time)

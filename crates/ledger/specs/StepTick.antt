@@ -200,7 +200,7 @@ module _ {store : List ℕ} {m : Manager} {l : Ledger} (a : Agrees store m l) (o
         t,
         time-same a time,
         record {
-          answers = λ j. answered 6 255 (i .files j) (i .size j);
+          answers = λ j. answered 6 255 (i .files j) (i .size j) 0;
           agrees = agrees-time (i .agrees) t (time-right (run .manager) t (i .agrees .right) (omega (arith, i .last, w .0)) (w .1));
           long = refl;
           writes = ap (splice output 0) (i .octets);

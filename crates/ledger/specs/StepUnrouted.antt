@@ -98,15 +98,15 @@ module _ {store : List ℕ} {m : Manager} {l : Ledger} (a : Agrees store m l) (o
         lines = λ j h. line-at (base-kept m notedState (noted-settings m (m .count)) j) (route-noted j h) (lines-at (l .lines) j (omega arith)) (noted-agrees (a .lines j h));
       }
 
-  pub unrouted-holds : Holds store output (unrouted m store output t) (answered 4 255 0 0) (unroutes l t)
-  unrouted-holds =
-      record { answers = refl; agrees = agrees-noted; long = refl; writes = sym (splice-nil output 0); room = omega arith; right = tt }
+  pub unrouted-holds : {k n : ℕ} → k ≡ n → Holds store output (unrouted m store output t k) (answered 4 255 0 0 n) (unroutes l t)
+  unrouted-holds same =
+      record { answers = ap (answered 4 255 0 0) same; agrees = agrees-noted; long = refl; writes = sym (splice-nil output 0); room = omega arith; right = tt }
 
-  pub lost-holds : (i : ℕ) → i < m .count → Holds store output (lostAt m store output t i) (answered 3 i 0 0) (loses l t i)
-  lost-holds i h =
+  pub lost-holds : (i : ℕ) → i < m .count → {k n : ℕ} → k ≡ n → Holds store output (lostAt m store output t i k) (answered 3 i 0 0 n) (loses l t i)
+  lost-holds i h same =
       let right : routeRight t (lostRoute (routeAt m i)) ≡ true = within-route t (lostRoute (routeAt m i)) (lost-within (route-later (within m (a .right) .routes i h) later)) in
       record {
-        answers = refl;
+        answers = ap (answered 3 i 0 0) same;
         agrees =
             agrees-with a i (lostRoute (routeAt m i)) (lostLine (lineAt l i)) t h (lost-agrees (a .lines i h)) refl
             (state-kept a i (lostRoute (routeAt m i)) t h refl right later most) (λ j k z. a .lines j k);

@@ -23,7 +23,7 @@ use Rattle.events.specs.Rules.{openedRoute}
 use Rattle.events.specs.Events.{After, settled, answered, openRules, opened, openOf}
 use Rattle.state.specs.Common.{common}
 use Rattle.ledger.specs.Event.{Event, OPEN}
-use Rattle.ledger.specs.Ledger.{Ledger, lineAt, Closing, Entry, lengths, openLine, carried, outcomeOf, neededBy, refusal, answerBy, entryBy, answerOf, entryOf}
+use Rattle.ledger.specs.Ledger.{Ledger, lineAt, Closing, Entry, lengths, openLine, carried, outcomeOf, comparedOf, neededBy, refusal, answerBy, entryBy, answerOf, entryOf}
 use Rattle.ledger.specs.Ledger.{effective as bookTime}
 use Rattle.ledger.specs.Ledger.{routeOf as routeBooked}
 use Rattle.ledger.specs.Run.{happens, joined}
@@ -48,7 +48,7 @@ pub record Holds (store output : List ℕ) (done : After) (answer : Answer) (ent
 
 -- an accepted event's answer, at the effective time t
 abbrev pub answerAt : Ledger → ℕ → Event → Answer
-answerAt l t e = answered (outcomeOf l e) (routeBooked l e) (length (carried l t e .closings)) (lengths (carried l t e .closings))
+answerAt l t e = answered (outcomeOf l e) (routeBooked l e) (length (carried l t e .closings)) (lengths (carried l t e .closings)) (comparedOf l e)
 
 -- Refused or not: an event holds if its number is the ledger's, its needed octets are where it is 17, and it holds where it is
 -- accepted.
@@ -69,7 +69,7 @@ module _ {store : List ℕ} (output : List ℕ) {m : Manager} {l : Ledger} (a : 
   settles zero q z = z refl
   settles (suc n) q z =
       record {
-        answers = λ i. record { refusal = suc n; outcome = 0; route = 0; files = 0; octets = octets-same (suc n) q i };
+        answers = λ i. record { refusal = suc n; outcome = 0; route = 0; files = 0; compared = 0; octets = octets-same (suc n) q i };
         agrees = a;
         long = refl;
         writes = sym (splice-nil output 0);

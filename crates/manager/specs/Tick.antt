@@ -262,14 +262,14 @@ module _ (words₀ : List ℕ) (t n : ℕ) (store output : List ℕ) where
 
 -- what the code puts together at the end is what is to be
 pub ticked-made : (m : Manager) (store output : List ℕ) (time : ℕ) {t n size files : ℕ} {words out : List ℕ} {answer : Answer}
-    → t ≡ effective m time → n ≡ m .count → size ≡ dueSize m t n → Ticked m t n store output out words files → answer ≡ answered 6 255 files size
+    → t ≡ effective m time → n ≡ m .count → size ≡ dueSize m t n → Ticked m t n store output out words files → answer ≡ answered 6 255 files size 0
     → left answer (set words 6 t) store out ≡ worded (ticked m store output time)
 ticked-made m store output time {t} {n} {size} {files} {words} {out} et en es d ea =
     (λ i. left (ea i) (set words 6 t) store out)
-    ∙ (λ i. left (answered 6 255 (d .count i) (es i)) (set (d .words i) 6 t) store (d .written i))
-    ∙ (λ i. left (answered 6 255 (upTo m store t n .files) (dueSize m t n)) (sym (timed-words (upTo m store t n .manager) t) i) store (splice output 0 (upTo m store t n .octets)))
+    ∙ (λ i. left (answered 6 255 (d .count i) (es i) 0) (set (d .words i) 6 t) store (d .written i))
+    ∙ (λ i. left (answered 6 255 (upTo m store t n .files) (dueSize m t n) 0) (sym (timed-words (upTo m store t n .manager) t) i) store (splice output 0 (upTo m store t n .octets)))
     ∙ (λ i. left
-    (answered 6 255 (upTo m store (et i) (en i) .files) (dueSize m (et i) (en i)))
+    (answered 6 255 (upTo m store (et i) (en i) .files) (dueSize m (et i) (en i)) 0)
     (wordsOf (withTime (upTo m store (et i) (en i) .manager) (et i)))
     store
     (splice output 0 (upTo m store (et i) (en i) .octets)))

@@ -67,5 +67,5 @@ pub fn close(
     filing::close_file(n, r, reason as u8, &store[..], base, output, 0);
     let closed = closed_route(r);
     put(words, i, closed, t);
-    accept(5, i as u8, 1, size)
+    accept(5, i as u8, 1, size, 0)
 }

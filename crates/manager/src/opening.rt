@@ -42,5 +42,5 @@ pub fn open(words: &mut [u32], store: &mut [u8], output: &mut [u8], time: u32, r
     let t = state::effective_time(words[6], time);
     let opened = opened_route(r, t);
     put(words, i, opened, t);
-    accept(1, i as u8, 0, 0)
+    accept(1, i as u8, 0, 0, 0)
 }

@@ -84,9 +84,9 @@ pub fn tick(words: &mut [u32], store: &mut [u8], output: &mut [u8], time: u32) -
     // Where no file ends, none is looked at twice.
     if size == 0 {
         words[6] = t;
-        return accept(6, 255, 0, 0);
+        return accept(6, 255, 0, 0, 0);
     }
     let files = close_due(words, t, n, &store[..], output);
     words[6] = t;
-    accept(6, 255, files, size)
+    accept(6, 255, files, size, 0)
 }

@@ -18,7 +18,7 @@ use Rattle.state.specs.Routing.{nobody, routeOf}
 use Rattle.state.specs.Longest.{longest-found}
 use Rattle.state.specs.Bounds.{stateRight}
 use Rattle.events.specs.declared.Arrival.{Arrival}
-use Rattle.events.specs.Rules.{openedRoute, closedRoute, full, wrongFields, routedTo}
+use Rattle.events.specs.Rules.{openedRoute, closedRoute, full, wrongFields, routedTo, comparedTo}
 use Rattle.events.specs.Events.{Outcome, After, after, changed, refused, settled}
 use Rattle.state.specs.Common.{common}
 use Rattle.events.specs.Receive.{isLost, turns, holding, finished, storeWith, needed, unroutedFull, countersFull, taken, placedSize, placedFiles, unrouted, lostAt, placedAt, receiveOf}
@@ -66,40 +66,40 @@ pub unmarked : (m : Manager) (a : Arrival) (i body : ℕ) → isLost m a i body 
 unmarked m a i body e z = let f : true ≡ false = rw (eq-eqb _ _ z) at e in true≢false f
 
 -- the three outcomes, each with its own refusal: 19 for a counter that would rise, 17 for the files that close
-abbrev pub unroutedOr : Manager → ℕ → Outcome
-unroutedOr m t =
-    cond (unroutedFull m) (refused 19 0 m) (unrouted m [] [] t .outcome)
+abbrev pub unroutedOr : Manager → ℕ → ℕ → Outcome
+unroutedOr m t compared =
+    cond (unroutedFull m) (refused 19 0 m) (unrouted m [] [] t compared .outcome)
 
-abbrev pub lostOr : Manager → ℕ → ℕ → Outcome
-lostOr m t i = cond (eqb (routeAt m i .losses) 4294967295) (refused 19 0 m) (lostAt m [] [] t i .outcome)
+abbrev pub lostOr : Manager → ℕ → ℕ → ℕ → Outcome
+lostOr m t i compared = cond (eqb (routeAt m i .losses) 4294967295) (refused 19 0 m) (lostAt m [] [] t i compared .outcome)
 
-abbrev placedOr : Manager → List ℕ → List ℕ → ℕ → Arrival → List ℕ → ℕ → After
-placedOr m store output t a body i =
+abbrev placedOr : Manager → List ℕ → List ℕ → ℕ → Arrival → List ℕ → ℕ → ℕ → After
+placedOr m store output t a body i compared =
     cond (ltb (length output) (placedSize (routeAt m i) a (length body) t))
     (after (refused 17 (placedSize (routeAt m i) a (length body) t) m) store output)
-    (placedAt m store output t a body i)
+    (placedAt m store output t a body i compared)
 
 -- what is told of a placing
-abbrev pub toldOf : Manager → ℕ → ℕ → Left → After
-toldOf m t i p =
+abbrev pub toldOf : Manager → ℕ → ℕ → ℕ → Left → After
+toldOf m t i compared p =
     after
-    (cond (p .placed .fits) (changed m t i (p .placed .route) 2 (p .placed .files) (p .placed .octets)) (refused 17 (p .placed .octets) m))
+    (cond (p .placed .fits) (changed m t i (p .placed .route) 2 (p .placed .files) (p .placed .octets) compared) (refused 17 (p .placed .octets) m))
     (p .store)
     (p .output)
 
-told-placed : (m : Manager) (store output : List ℕ) (t : ℕ) (a : Arrival) (body : List ℕ) (i : ℕ) → i < length (m .routes)
-    → toldOf m t i (placeOf (nodeOf m) (base m i) (routeAt m i) store output t a body) ≡ placedOr m store output t a body i
-told-placed m store output t a body i there =
+told-placed : (m : Manager) (store output : List ℕ) (t : ℕ) (a : Arrival) (body : List ℕ) (i compared : ℕ) → i < length (m .routes)
+    → toldOf m t i compared (placeOf (nodeOf m) (base m i) (routeAt m i) store output t a body) ≡ placedOr m store output t a body i compared
+told-placed m store output t a body i compared there =
     go (ltb (length output) (placedSize (routeAt m i) a (length body) t)) refl
   where
     go : (b : Bool) → ltb (length output) (placedSize (routeAt m i) a (length body) t) ≡ b
-        → toldOf m t i (placeOf (nodeOf m) (base m i) (routeAt m i) store output t a body) ≡ placedOr m store output t a body i
+        → toldOf m t i compared (placeOf (nodeOf m) (base m i) (routeAt m i) store output t a body) ≡ placedOr m store output t a body i compared
     go true e = rw e
     go false e =
         rw e
         (ap
         (after
-        (changed m t i (finished (routeAt m i) a (length body) t) 2 (placedFiles (routeAt m i) a (length body) t) (placedSize (routeAt m i) a (length body) t))
+        (changed m t i (finished (routeAt m i) a (length body) t) 2 (placedFiles (routeAt m i) a (length body) t) (placedSize (routeAt m i) a (length body) t) compared)
         (storeWith m store i a body t))
         (placed-there m store output t a body i there))
 
@@ -218,13 +218,13 @@ module _ (m : Manager) (store output : List ℕ) (time : ℕ) (a : Arrival) (key
       size to = placedSize (routeAt m (to .at)) a (length body) (effective m time)
 
       abbrev lose : Routed → After
-      lose to = lostAt m store output (effective m time) (to .at)
+      lose to = lostAt m store output (effective m time) (to .at) (comparedTo m a key)
 
       abbrev put : Routed → After
-      put to = placedAt m store output (effective m time) a body (to .at)
+      put to = placedAt m store output (effective m time) a body (to .at) (comparedTo m a key)
 
       abbrev pass : After
-      pass = unrouted m store output (effective m time)
+      pass = unrouted m store output (effective m time) (comparedTo m a key)
 
       abbrev u : Bool
       u = unroutedFull m
@@ -238,36 +238,41 @@ module _ (m : Manager) (store output : List ℕ) (time : ℕ) (a : Arrival) (key
       left-of : {to : Routed} → to ≡ routedTo m a key → left to ≡ receiveOf m store output time a key body
       left-of r = ap left r ∙ five-left from19 octets m store output done right ∙ common-passed
 
-      pub receive-unrouted : {to : Routed} → to ≡ routedTo m a key → to .found ≡ false
-          → after (unroutedOr m (effective m time)) store output ≡ receiveOf m store output time a key body
-      receive-unrouted {to} r f =
-          not-found (size to) m store output (lose to) (put to) pass (isLost m a (to .at) (length body)) u (l to)
-          (unrouted m [] [] (effective m time) .outcome) refl f
-          ∙ left-of r
+      -- with the octets that were compared
+      module _ {k : ℕ} (ek : k ≡ comparedTo m a key) where
+        pub receive-unrouted : {to : Routed} → to ≡ routedTo m a key → to .found ≡ false
+            → after (unroutedOr m (effective m time) k) store output ≡ receiveOf m store output time a key body
+        receive-unrouted {to} r f =
+            ap (λ (x : ℕ). after (unroutedOr m (effective m time) x) store output) ek
+            ∙ not-found (size to) m store output (lose to) (put to) pass (isLost m a (to .at) (length body)) u (l to)
+            (unrouted m [] [] (effective m time) (comparedTo m a key) .outcome) refl f
+            ∙ left-of r
 
-      module _ {to : Routed} (r : to ≡ routedTo m a key) (f : to .found ≡ true) where
-        pub receive-lost : isLost m a (to .at) (length body) ≡ true
-            → after (lostOr m (effective m time) (to .at)) store output ≡ receiveOf m store output time a key body
-        receive-lost e =
-            found-lost (size to) m store output (lose to) (put to) pass u (l to) (lostAt m [] [] (effective m time) (to .at) .outcome) refl f e ∙ left-of r
-
-        module _ (e : isLost m a (to .at) (length body) ≡ false) {t from : ℕ} {n : Node} {route : Route} (et : t ≡ effective m time) (en : n ≡ nodeOf m)
-            (eb : from ≡ base m (to .at)) (er : route ≡ routeAt m (to .at)) (there : to .at < length (m .routes))
-            {q : Left} (eq : q ≡ placeOf n from route store output t a body) where
-          told-receive : toldOf m t (to .at) q ≡ receiveOf m store output time a key body
-          told-receive =
-              ap (toldOf m t (to .at)) eq
-              ∙ (λ i. toldOf m (et i) (to .at) (placeOf (en i) (eb i) (er i) store output (et i) a body))
-              ∙ told-placed m store output (effective m time) a body (to .at) there
-              ∙ found-placed (size to) m store output (lose to) (put to) pass u (l to) f e
+        module _ {to : Routed} (r : to ≡ routedTo m a key) (f : to .found ≡ true) where
+          pub receive-lost : isLost m a (to .at) (length body) ≡ true
+              → after (lostOr m (effective m time) (to .at) k) store output ≡ receiveOf m store output time a key body
+          receive-lost e =
+              ap (λ (x : ℕ). after (lostOr m (effective m time) (to .at) x) store output) ek
+              ∙ found-lost (size to) m store output (lose to) (put to) pass u (l to) (lostAt m [] [] (effective m time) (to .at) (comparedTo m a key) .outcome) refl f e
               ∙ left-of r
 
-          pub receive-short : q .placed .fits ≡ false → after (refused 17 (q .placed .octets) m) (q .store) (q .output) ≡ receiveOf m store output time a key body
-          receive-short b = ap (λ (x : Outcome). after x (q .store) (q .output)) (sym (rw b)) ∙ told-receive
+          module _ (e : isLost m a (to .at) (length body) ≡ false) {t from : ℕ} {n : Node} {route : Route} (et : t ≡ effective m time) (en : n ≡ nodeOf m)
+              (eb : from ≡ base m (to .at)) (er : route ≡ routeAt m (to .at)) (there : to .at < length (m .routes))
+              {q : Left} (eq : q ≡ placeOf n from route store output t a body) where
+            told-receive : toldOf m t (to .at) k q ≡ receiveOf m store output time a key body
+            told-receive =
+                ap (toldOf m t (to .at) k) eq
+                ∙ (λ i. toldOf m (et i) (to .at) (ek i) (placeOf (en i) (eb i) (er i) store output (et i) a body))
+                ∙ told-placed m store output (effective m time) a body (to .at) (comparedTo m a key) there
+                ∙ found-placed (size to) m store output (lose to) (put to) pass u (l to) f e
+                ∙ left-of r
 
-          pub receive-placed : q .placed .fits ≡ true
-              → after (changed m t (to .at) (q .placed .route) 2 (q .placed .files) (q .placed .octets)) (q .store) (q .output) ≡ receiveOf m store output time a key body
-          receive-placed b = ap (λ (x : Outcome). after x (q .store) (q .output)) (sym (rw b)) ∙ told-receive
+            pub receive-short : q .placed .fits ≡ false → after (refused 17 (q .placed .octets) m) (q .store) (q .output) ≡ receiveOf m store output time a key body
+            receive-short b = ap (λ (x : Outcome). after x (q .store) (q .output)) (sym (rw b)) ∙ told-receive
+
+            pub receive-placed : q .placed .fits ≡ true
+                → after (changed m t (to .at) (q .placed .route) 2 (q .placed .files) (q .placed .octets) k) (q .store) (q .output) ≡ receiveOf m store output time a key body
+            receive-placed b = ap (λ (x : Outcome). after x (q .store) (q .output)) (sym (rw b)) ∙ told-receive
 
 -- The route that a placing leaves: its settings are as they were, and its opening is below bit 31.
 module _ (n : Node) (from : ℕ) (r : Route) (store output : List ℕ) (t : ℕ) (a : Arrival) (body : List ℕ) {q : Left} (e : q ≡ placeOf n from r store output t a body) (f : q .placed .fits ≡ true) where

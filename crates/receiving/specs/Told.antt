@@ -108,40 +108,40 @@ unfolding wordsOf
 noted-words m t = refl
 
 -- The ways out of a lost record: 19, or one more known loss.
-module _ {xs : List ℕ} {i : ℕ} {r : Route} (at : ReadAt xs i r) (t : ℕ) where
+module _ {xs : List ℕ} {i : ℕ} {r : Route} (at : ReadAt xs i r) (t compared : ℕ) where
   abbrev m : Manager
   m = managerIn xs
 
-  pub lost-refused : r .losses ≡ 4294967295 → {o : Answer} → o ≡ refusalOf 19 0 → told o xs ≡ toldWords (lostOr m t i)
+  pub lost-refused : r .losses ≡ 4294967295 → {o : Answer} → o ≡ refusalOf 19 0 → told o xs ≡ toldWords (lostOr m t i compared)
   lost-refused z eo =
       let full : eqb (routeAt m i .losses) 4294967295 ≡ true = eq-eqb _ _ (ap (λ (q : Route). q .losses) (sym (at .route)) ∙ z) in
       (λ j. told (eo j) (sym (words-words xs (at .number)) j))
-      ∙ ap (λ (b : Bool). toldWords (cond b (refused 19 0 m) (lostAt m [] [] t i .outcome))) (sym full)
+      ∙ ap (λ (b : Bool). toldWords (cond b (refused 19 0 m) (lostAt m [] [] t i compared .outcome))) (sym full)
 
-  pub lost-done : (r .losses ≡ 4294967295 → ⊥) → {c : Route} {o : Answer} {ys : List ℕ} → c ≡ lostRoute r → o ≡ answered 3 i 0 0
-      → ys ≡ set (splice xs (17 + 19 * i) (changingWords c [])) 6 t → told o ys ≡ toldWords (lostOr m t i)
+  pub lost-done : (r .losses ≡ 4294967295 → ⊥) → {c : Route} {o : Answer} {ys : List ℕ} → c ≡ lostRoute r → o ≡ answered 3 i 0 0 compared
+      → ys ≡ set (splice xs (17 + 19 * i) (changingWords c [])) 6 t → told o ys ≡ toldWords (lostOr m t i compared)
   lost-done z {c} ec eo ey =
       let rises : eqb (routeAt m i .losses) 4294967295 ≡ false = ne-eqb _ _ (λ p. z (ap (λ (q : Route). q .losses) (at .route) ∙ p)) in
       let route : c ≡ lostRoute (routeAt m i) = ec ∙ ap lostRoute (at .route) in
       (λ j. told (eo j) ((ey ∙ left-words xs (at .number) i (at .there) c (ap (λ (q : Route). q .settings) route) t) j))
-      ∙ ap (λ (q : Route). told (answered 3 i 0 0) (wordsOf (withTime (withRoute m i q) t))) route
-      ∙ ap (λ (b : Bool). toldWords (cond b (refused 19 0 m) (lostAt m [] [] t i .outcome))) (sym rises)
+      ∙ ap (λ (q : Route). told (answered 3 i 0 0 compared) (wordsOf (withTime (withRoute m i q) t))) route
+      ∙ ap (λ (b : Bool). toldWords (cond b (refused 19 0 m) (lostAt m [] [] t i compared .outcome))) (sym rises)
 
 -- And of an unrouted one: 19, or counted on every route and in all.
-module _ (xs : List ℕ) (number : length xs ≡ 360) (t : ℕ) where
-  pub unrouted-refused : unroutedFull (managerIn xs) ≡ true → {o : Answer} → o ≡ refusalOf 19 0 → told o xs ≡ toldWords (unroutedOr (managerIn xs) t)
+module _ (xs : List ℕ) (number : length xs ≡ 360) (t compared : ℕ) where
+  pub unrouted-refused : unroutedFull (managerIn xs) ≡ true → {o : Answer} → o ≡ refusalOf 19 0 → told o xs ≡ toldWords (unroutedOr (managerIn xs) t compared)
   unrouted-refused z eo =
       let n = managerIn xs in
       (λ j. told (eo j) (sym (words-words xs number) j))
-      ∙ ap (λ (b : Bool). toldWords (cond b (refused 19 0 n) (unrouted n [] [] t .outcome))) (sym z)
+      ∙ ap (λ (b : Bool). toldWords (cond b (refused 19 0 n) (unrouted n [] [] t compared .outcome))) (sym z)
 
   pub unrouted-done : unroutedFull (managerIn xs) ≡ false → {k : ℕ} {o : Answer} {ys : List ℕ} → k ≡ managerIn xs .count
-      → o ≡ answered 4 255 0 0 → ys ≡ wordsOf (notedTo (managerIn xs) k) → told o (set (set ys 6 t) 7 (managerIn xs .unrouted + 1)) ≡ toldWords (unroutedOr (managerIn xs) t)
+      → o ≡ answered 4 255 0 0 compared → ys ≡ wordsOf (notedTo (managerIn xs) k) → told o (set (set ys 6 t) 7 (managerIn xs .unrouted + 1)) ≡ toldWords (unroutedOr (managerIn xs) t compared)
   unrouted-done z {k} {o} {ys} ek eo ey =
       let n = managerIn xs in
       (λ j. told (eo j) (set (set ((ey ∙ ap (λ (x : ℕ). wordsOf (notedTo n x)) ek) j) 6 t) 7 (n .unrouted + 1)))
-      ∙ ap (told (answered 4 255 0 0)) (noted-words n t)
-      ∙ ap (λ (b : Bool). toldWords (cond b (refused 19 0 n) (unrouted n [] [] t .outcome))) (sym z)
+      ∙ ap (told (answered 4 255 0 0 compared)) (noted-words n t)
+      ∙ ap (λ (b : Bool). toldWords (cond b (refused 19 0 n) (unrouted n [] [] t compared .outcome))) (sym z)
 
 -- What is told of such a record is a way out of the event.
 pub way-told : (xs store output : List ℕ) (event : Manager → After) → length xs ≡ 360 → {r : Answer} {ys : List ℕ} (o : Outcome) → told r ys ≡ toldWords o

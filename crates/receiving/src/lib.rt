@@ -3,12 +3,13 @@ mod pass;
 
 use events::Answer;
 use events::Arrival;
+use routing::Counted;
 use state::Routed;
 ghost use mathlib.Core.Path.{_≡_};
 ghost use lib.ListN.{length};
 ghost use Rattle.state.specs.Routing.{Routable};
 ghost use Rattle.words.specs.Words.{managerIn};
-ghost use Rattle.events.specs.Rules.{wrongFields, routedTo};
+ghost use Rattle.events.specs.Rules.{wrongFields, routedTo, comparedTo};
 ghost use Rattle.events.specs.Lent.{left, receiveOn};
 
 // Whether the mark, the key's length or the record's fields are wrong: refusal 5.
@@ -25,16 +26,20 @@ fn wrong_fields(a: Arrival, key: usize) -> bool
                 | ((a.release < 7) & !(a.extension == 0))))
 }
 
-// Where a record goes: mark 2 says that nothing is to be trusted.
-fn routed_to(words: &[u32], a: Arrival, key: &[u8]) -> Routed
+// Where a record goes, and what that took: mark 2 says that nothing is to be trusted, so that nothing is compared.
+fn routed_to(words: &[u32], a: Arrival, key: &[u8]) -> Counted
     requires { ⌜ (length (now words) ≡ 360) × Routable (managerIn (now words)) ⌝ }
-    ensures { λ r. ⌜ r ≡ routedTo (managerIn (now (words .entry))) a (now (key .entry)) ⌝ }
+    ensures { λ r. ⌜ (r .routed ≡ routedTo (managerIn (now (words .entry))) a (now (key .entry))) × (r .compared ≡ comparedTo (managerIn (now (words .entry))) a (now (key .entry))) ⌝ }
 {
     if a.mark == 2 {
-        return Routed {
+        let nobody = Routed {
             found: false,
             at: 0,
             octets: 0,
+        };
+        return Counted {
+            routed: nobody,
+            compared: 0,
         };
     }
     routing::route_of(words, key)
@@ -64,13 +69,13 @@ pub fn receive(
     }
     let t = state::effective_time(words[6], time);
     let to = routed_to(words, a, key);
-    if !to.found {
-        return pass::unrouted(words, t);
+    if !to.routed.found {
+        return pass::unrouted(words, t, to.compared);
     }
-    let i = to.at as usize;
+    let i = to.routed.at as usize;
     let r = words::route_at(words, i);
     if pass::is_lost(r.settings, a, body.len()) {
-        return pass::lost(words, t, i, r);
+        return pass::lost(words, t, i, r, to.compared);
     }
     let n = words::node_of(words);
     let from = judging::region_base(words, i);
@@ -79,5 +84,5 @@ pub fn receive(
         return events::refuse(17, p.octets);
     }
     words::put(words, i, p.route, t);
-    events::accept(2, to.at, p.files, p.octets)
+    events::accept(2, to.routed.at, p.files, p.octets, to.compared)
 }

@@ -56,9 +56,9 @@ fn note_routes(words: &mut [u32], n: usize)
 }
 
 // An unrouted record is counted, by the manager and on every configured route. All counters are looked at before one rises.
-pub fn unrouted(words: &mut [u32], t: u32) -> Answer
+pub fn unrouted(words: &mut [u32], t: u32, compared: u8) -> Answer
     requires { ⌜ (length (now words) ≡ 360) × (managerIn (now words) .count ≤ 8) ⌝ }
-    ensures { λ r. ⌜ told r (now (words .exit)) ≡ toldWords (unroutedOr (managerIn (now (words .entry))) t) ⌝ }
+    ensures { λ r. ⌜ told r (now (words .exit)) ≡ toldWords (unroutedOr (managerIn (now (words .entry))) t compared) ⌝ }
 {
     let unrouted = words[7];
     let n = words::count_of(words);
@@ -70,18 +70,18 @@ pub fn unrouted(words: &mut [u32], t: u32) -> Answer
     note_routes(words, n);
     words[6] = t;
     words[7] = more;
-    events::accept(4, 255, 0, 0)
+    events::accept(4, 255, 0, 0, compared)
 }
 
 // A lost record is counted on its route i, which is r.
-pub fn lost(words: &mut [u32], t: u32, i: usize, mut r: Route) -> Answer
+pub fn lost(words: &mut [u32], t: u32, i: usize, mut r: Route, compared: u8) -> Answer
     requires { ⌜ ReadAt (now words) i r ⌝ }
-    ensures { λ o. ⌜ told o (now (words .exit)) ≡ toldWords (lostOr (managerIn (now (words .entry))) t i) ⌝ }
+    ensures { λ o. ⌜ told o (now (words .exit)) ≡ toldWords (lostOr (managerIn (now (words .entry))) t i compared) ⌝ }
 {
     if r.losses == 4294967295 {
         return events::refuse(19, 0);
     }
     r.losses = r.losses + 1;
     words::put(words, i, r, t);
-    events::accept(3, i as u8, 0, 0)
+    events::accept(3, i as u8, 0, 0, compared)
 }

@@ -115,6 +115,30 @@ leading-most f (suc k) = go (allBelow f (suc k)) (leading-most f k)
     go true before = omega arith
     go false before = omega arith
 
+-- all of them, or not all
+pub leading-whole : (f : ℕ → Bool) (n : ℕ) → n ≤ leading f n → allBelow f n ≡ true
+leading-whole f zero h = refl
+leading-whole f (suc n) h = go (allBelow f (suc n)) refl
+  where
+    go : (b : Bool) → allBelow f (suc n) ≡ b → allBelow f (suc n) ≡ true
+    go true e = e
+    go false e = absurd (omega (arith, h, ap (λ (b : Bool). cond b (suc n) (leading f n)) e, leading-most f n))
+
+pub leading-short : (f : ℕ → Bool) (n : ℕ) → leading f n < n → allBelow f n ≡ false
+leading-short f n h = go (allBelow f n) refl
+  where
+    go : (b : Bool) → allBelow f n ≡ b → allBelow f n ≡ false
+    go true e = absurd (omega (arith, h, leading-all f n e))
+    go false e = e
+
+-- two tests that say the same
+pub leading-same : (f g : ℕ → Bool) (n : ℕ) → ((i : ℕ) → i < n → f i ≡ g i) → leading f n ≡ leading g n
+leading-same f g zero h = refl
+leading-same f g (suc n) h =
+    let all = below-same f g (suc n) h in
+    let rest = leading-same f g n (λ i l. h i (omega arith)) in
+    λ j. cond (all j) (suc n) (rest j)
+
 -- The numbers f k, f (k + 1) and so on, n of them.
 abbrev pub listFrom : (ℕ → ℕ) → ℕ → ℕ → List ℕ
 listFrom f k zero = []

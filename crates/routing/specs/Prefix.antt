@@ -1,219 +1,238 @@
--- A filter that is a prefix of a key (document 01, Routing and loss), word by word: of a word as many first octets as count are
--- compared with those of the key's word. Assumes nothing.
+-- How many octets of a filter and a key are the same from the first on (document 01, Routing and loss; document 02, ask 7), word by word:
+-- words that are the same are four octets that are, and in the first two words that are not there is a first octet that differs.
+-- Assumes nothing.
 use mathlib.Core.Path.{_≡_, refl, sym, ap, _∙_}
-use mathlib.Core.Bool.{Bool, true, false, not, _&&_, _||_, and-true}
-use mathlib.Core.List.{List}
-use Prim.Native.Nat.{ℕ, zero, suc, _+_, _-_, _*_, _/_, _≤_}
+use mathlib.Core.Bool.{Bool, true, false, cond, _&&_}
+use mathlib.Core.List.{List, [], _∷_}
+use Prim.Native.Nat.{ℕ, zero, suc, _+_, _-_, _*_, _/_, _%_, _≤_, _<_}
 use native.Mathlib.Omega.{arith}
-use native.Mathlib.Nat.{add-zero, add-suc}
+use native.Mathlib.Decide.{decLt}
 use lib.Dec.{ltb, leb, eqb}
 use lib.ListN.{length, getD}
-use borrow.Author.Tests.{lt-ltb, le-ltb, eqb-true, eq-eqb, ne-eqb}
-use Rattle.refusals.specs.Tests.{both}
-use Rattle.refusals.specs.Below.{allBelow, below-same}
+use borrow.Author.Tests.{lt-ltb, le-ltb, le-leb, lt-leb, eq-eqb, ne-eqb, ltb-true, ltb-false}
+use Rattle.refusals.specs.Below.{allBelow, below-each, below-all, leading, leading-all, leading-to, leading-most, leading-whole, leading-short, leading-same}
 use Rattle.octets.specs.Alike.{sameAt, alike}
 use Rattle.octets.specs.Number.{Octets}
+use Rattle.state.specs.declared.RouteSettings.{RouteSettings}
 use Rattle.state.specs.Routing.{fits}
-use Rattle.words.specs.Words.{packed, octet1, octet2, octet3, octet4, filterIn, settingsIn, fourAt, fiveWords}
-use Rattle.words.specs.Laws.{packed-word, octet1-packed, octet2-packed, octet3-packed, octet4-packed, shifted, regroup, same-test}
+use Rattle.state.specs.Compared.{comparedWith}
+use Rattle.words.specs.Words.{octet1, octet2, octet3, octet4, octetsIn, filterIn, settingsIn, fourAt, fiveWords}
+use Rattle.words.specs.Laws.{octet1-packed, octet2-packed, octet3-packed, octet4-packed}
 
--- the first u octets of two words are the same
-unfoldable pub startSame : ℕ → ℕ → ℕ → Bool
-startSame w k u =
-    (not (ltb 0 u) || eqb (octet1 w) (octet1 k))
-    && ((not (ltb 1 u) || eqb (octet2 w) (octet2 k)) && ((not (ltb 2 u) || eqb (octet3 w) (octet3 k)) && (not (ltb 3 u) || eqb (octet4 w) (octet4 k))))
+-- octet i of a word, and octet q of words
+abbrev pub octetOf : ℕ → ℕ → ℕ
+octetOf zero w = octet1 w
+octetOf (suc zero) w = octet2 w
+octetOf (suc (suc zero)) w = octet3 w
+octetOf (suc (suc (suc i))) w = octet4 w
 
--- The first n octets, looked for among more.
-abbrev countsAt : List ℕ → List ℕ → ℕ → ℕ → Bool
-countsAt xs ys n k = not (ltb k n) || sameAt xs ys k
+abbrev pub sameOctet : ℕ → ℕ → ℕ → Bool
+sameOctet w k i = eqb (octetOf i w) (octetOf i k)
 
-abbrev alikeIn : List ℕ → List ℕ → ℕ → ℕ → Bool
-alikeIn xs ys n k = allBelow (countsAt xs ys n) k
+abbrev pub sameIn : List ℕ → List ℕ → ℕ → Bool
+sameIn xs ks q = sameOctet (getD xs (q / 4) 0) (getD ks (q / 4) 0) (q % 4)
 
-module _ (xs ys : List ℕ) (n : ℕ) where
-  alike-below : alikeIn xs ys n n ≡ alike xs ys n
-  alike-below = below-same (countsAt xs ys n) (sameAt xs ys) n (λ k h. ap (λ (b : Bool). not b || sameAt xs ys k) (lt-ltb k n h))
-
-  alike-past : (d : ℕ) → alikeIn xs ys n (n + d) ≡ alike xs ys n
-  alike-past zero = ap (alikeIn xs ys n) (add-zero n) ∙ alike-below
-  alike-past (suc d) =
-      let past : n ≤ n + d = omega arith in
-      ap (alikeIn xs ys n) (add-suc n d)
-      ∙ (λ i. alike-past d i && (not (le-ltb (n + d) n past i) || eqb (getD xs (n + d) 0) (getD ys (n + d) 0)))
-      ∙ and-true (alike xs ys n)
-
-  alike-twenty : n ≤ 20 → alike xs ys n ≡ alikeIn xs ys n 20
-  alike-twenty h =
-      let e : n + (20 - n) ≡ 20 = omega arith in
-      sym (alike-past (20 - n)) ∙ ap (alikeIn xs ys n) e
-
--- Twenty octets are five words.
-module _ (key : List ℕ) (o : Octets key) where
-  -- one word more
-  one-word : (x : Bool) (w k n : ℕ)
-      → ((((x && (not (ltb (k + 0) n) || eqb (octet1 w) (getD key k 0))) && (not (ltb (k + 1) n) || eqb (octet2 w) (getD key (k + 1) 0)))
-      && (not (ltb (k + 2) n) || eqb (octet3 w) (getD key (k + 2) 0)))
-      && (not (ltb (k + 3) n) || eqb (octet4 w) (getD key (k + 3) 0)))
-      ≡ (x && startSame w (fourAt key k) (n - k))
-  unfolding startSame
-  one-word x w k n =
-      let a = getD key k 0 in
-      let b = getD key (k + 1) 0 in
-      let c = getD key (k + 2) 0 in
-      let d = getD key (k + 3) 0 in
-      let hb = o .at (k + 1) in
-      let hc = o .at (k + 2) in
-      let hd = o .at (k + 3) in
-      regroup x (not (ltb (k + 0) n) || eqb (octet1 w) a) (not (ltb (k + 1) n) || eqb (octet2 w) b) (not (ltb (k + 2) n) || eqb (octet3 w) c) (not (ltb (k + 3) n) || eqb (octet4 w) d)
-      ∙ (λ i. x
-      && ((not (shifted k 0 n i) || eqb (octet1 w) (sym (octet1-packed a b c d hb hc hd) i))
-      && ((not (shifted k 1 n i) || eqb (octet2 w) (sym (octet2-packed a b c d hb hc hd) i))
-      && ((not (shifted k 2 n i) || eqb (octet3 w) (sym (octet3-packed a b c d hb hc hd) i))
-      && (not (shifted k 3 n i) || eqb (octet4 w) (sym (octet4-packed a b c d hb hc hd) i))))))
-
-  pub prefix-words : (a b c d e n : ℕ) → n ≤ 20
-      → alike (filterIn a b c d e) key n
-      ≡ (startSame a (fourAt key 0) n
-      && startSame b (fourAt key 4) (n - 4)
-      && startSame c (fourAt key 8) (n - 8)
-      && startSame d (fourAt key 12) (n - 12)
-      && startSame e (fourAt key 16) (n - 16))
-  prefix-words a b c d e n h =
-      let filter = filterIn a b c d e in
-      let whole : n - 0 ≡ n = omega arith in
-      alike-twenty filter key n h
-      ∙ one-word (alikeIn filter key n 16) e 16 n
-      ∙ ap (λ (x : Bool). x && startSame e (fourAt key 16) (n - 16))
-      (one-word (alikeIn filter key n 12) d 12 n
-      ∙ ap (λ (x : Bool). x && startSame d (fourAt key 12) (n - 12))
-      (one-word (alikeIn filter key n 8) c 8 n
-      ∙ ap (λ (x : Bool). x && startSame c (fourAt key 8) (n - 8))
-      (one-word (alikeIn filter key n 4) b 4 n
-      ∙ ap (λ (x : Bool). x && startSame b (fourAt key 4) (n - 4))
-      (one-word true a 0 n ∙ ap (startSame a (fourAt key 0)) whole))))
-
--- A word's first octets as one number.
-first-two : (w : ℕ) → w / 65536 ≡ octet1 w * 256 + octet2 w
-first-two w = omega arith
-
-first-three : (w : ℕ) → w / 256 ≡ octet1 w * 65536 + (octet2 w * 256 + octet3 w)
-first-three w = omega arith
+-- the first octet in which two words differ
+pub record Differs (w k i : ℕ) : Type 0 where
+  pub low : i < 4
+  pub before : (j : ℕ) → j < i → sameOctet w k j ≡ true
+  pub at : sameOctet w k i ≡ false
 
 module _ (w k : ℕ) where
-  pub none-same : startSame w k 0 ≡ true
-  unfolding startSame
-  none-same = refl
-
-  pub one-same : eqb (w / 16777216) (k / 16777216) ≡ startSame w k 1
-  unfolding startSame
-  one-same = sym (and-true (eqb (octet1 w) (octet1 k)))
-
-  pub two-same : eqb (w / 65536) (k / 65536) ≡ startSame w k 2
-  unfolding startSame
-  two-same = same-test (eqb (w / 65536) (k / 65536)) (startSame w k 2) there back
+  pub differs-fourth : w / 256 ≡ k / 256 → (w ≡ k → ⊥) → Differs w k 3
+  differs-fourth e d = record { low = omega arith; before = before; at = ne-eqb (octet4 w) (octet4 k) (λ z. d (omega arith)) }
     where
-      there : eqb (w / 65536) (k / 65536) ≡ true → startSame w k 2 ≡ true
-      there t = let z = eqb-true (w / 65536) (k / 65536) t in
-          λ i. eq-eqb (octet1 w) (octet1 k) (omega arith) i && (eq-eqb (octet2 w) (octet2 k) (omega arith) i && true)
+      before : (j : ℕ) → j < 3 → sameOctet w k j ≡ true
+      before zero h = eq-eqb (octet1 w) (octet1 k) (omega arith)
+      before (suc zero) h = eq-eqb (octet2 w) (octet2 k) (omega arith)
+      before (suc (suc zero)) h = eq-eqb (octet3 w) (octet3 k) (omega arith)
+      before (suc (suc (suc j))) h = absurd (omega arith)
 
-      back : startSame w k 2 ≡ true → eqb (w / 65536) (k / 65536) ≡ true
-      back t =
-          let t1 = both (eqb (octet1 w) (octet1 k)) (eqb (octet2 w) (octet2 k) && true) t in
-          let t2 = both (eqb (octet2 w) (octet2 k)) true (t1 .1) in
-          eq-eqb (w / 65536) (k / 65536)
-          (first-two w ∙ (λ i. eqb-true (octet1 w) (octet1 k) (t1 .0) i * 256 + eqb-true (octet2 w) (octet2 k) (t2 .0) i) ∙ sym (first-two k))
-
-  pub three-same : eqb (w / 256) (k / 256) ≡ startSame w k 3
-  unfolding startSame
-  three-same = same-test (eqb (w / 256) (k / 256)) (startSame w k 3) there back
+  pub differs-third : w / 65536 ≡ k / 65536 → (w / 256 ≡ k / 256 → ⊥) → Differs w k 2
+  differs-third e d = record { low = omega arith; before = before; at = ne-eqb (octet3 w) (octet3 k) (λ z. d (omega arith)) }
     where
-      there : eqb (w / 256) (k / 256) ≡ true → startSame w k 3 ≡ true
-      there t = let z = eqb-true (w / 256) (k / 256) t in
-          λ i. eq-eqb (octet1 w) (octet1 k) (omega arith) i && (eq-eqb (octet2 w) (octet2 k) (omega arith) i && (eq-eqb (octet3 w) (octet3 k) (omega arith) i && true))
+      before : (j : ℕ) → j < 2 → sameOctet w k j ≡ true
+      before zero h = eq-eqb (octet1 w) (octet1 k) (omega arith)
+      before (suc zero) h = eq-eqb (octet2 w) (octet2 k) (omega arith)
+      before (suc (suc j)) h = absurd (omega arith)
 
-      back : startSame w k 3 ≡ true → eqb (w / 256) (k / 256) ≡ true
-      back t =
-          let t1 = both (eqb (octet1 w) (octet1 k)) (eqb (octet2 w) (octet2 k) && (eqb (octet3 w) (octet3 k) && true)) t in
-          let t2 = both (eqb (octet2 w) (octet2 k)) (eqb (octet3 w) (octet3 k) && true) (t1 .1) in
-          let t3 = both (eqb (octet3 w) (octet3 k)) true (t2 .1) in
-          eq-eqb (w / 256) (k / 256)
-          (first-three w
-          ∙ (λ i. eqb-true (octet1 w) (octet1 k) (t1 .0) i * 65536 + (eqb-true (octet2 w) (octet2 k) (t2 .0) i * 256 + eqb-true (octet3 w) (octet3 k) (t3 .0) i))
-          ∙ sym (first-three k))
-
-  -- all four
-  all-same : eqb w k ≡ (eqb (octet1 w) (octet1 k) && (eqb (octet2 w) (octet2 k) && (eqb (octet3 w) (octet3 k) && eqb (octet4 w) (octet4 k))))
-  all-same = same-test (eqb w k) (eqb (octet1 w) (octet1 k) && (eqb (octet2 w) (octet2 k) && (eqb (octet3 w) (octet3 k) && eqb (octet4 w) (octet4 k)))) there back
+  pub differs-second : w / 16777216 ≡ k / 16777216 → (w / 65536 ≡ k / 65536 → ⊥) → Differs w k 1
+  differs-second e d = record { low = omega arith; before = before; at = ne-eqb (octet2 w) (octet2 k) (λ z. d (omega arith)) }
     where
-      there : eqb w k ≡ true → (eqb (octet1 w) (octet1 k) && (eqb (octet2 w) (octet2 k) && (eqb (octet3 w) (octet3 k) && eqb (octet4 w) (octet4 k)))) ≡ true
-      there t = let z = eqb-true w k t in
-          λ i.
-          eq-eqb (octet1 w) (octet1 k) (ap octet1 z) i
-          && (eq-eqb (octet2 w) (octet2 k) (ap octet2 z) i && (eq-eqb (octet3 w) (octet3 k) (ap octet3 z) i && eq-eqb (octet4 w) (octet4 k) (ap octet4 z) i))
+      before : (j : ℕ) → j < 1 → sameOctet w k j ≡ true
+      before zero h = eq-eqb (octet1 w) (octet1 k) (omega arith)
+      before (suc j) h = absurd (omega arith)
 
-      back : (eqb (octet1 w) (octet1 k) && (eqb (octet2 w) (octet2 k) && (eqb (octet3 w) (octet3 k) && eqb (octet4 w) (octet4 k)))) ≡ true → eqb w k ≡ true
-      back t =
-          let t1 = both (eqb (octet1 w) (octet1 k)) (eqb (octet2 w) (octet2 k) && (eqb (octet3 w) (octet3 k) && eqb (octet4 w) (octet4 k))) t in
-          let t2 = both (eqb (octet2 w) (octet2 k)) (eqb (octet3 w) (octet3 k) && eqb (octet4 w) (octet4 k)) (t1 .1) in
-          let t3 = both (eqb (octet3 w) (octet3 k)) (eqb (octet4 w) (octet4 k)) (t2 .1) in
-          eq-eqb w k
-          (sym (packed-word w)
-          ∙ (λ i. packed
-          (eqb-true (octet1 w) (octet1 k) (t1 .0) i)
-          (eqb-true (octet2 w) (octet2 k) (t2 .0) i)
-          (eqb-true (octet3 w) (octet3 k) (t3 .0) i)
-          (eqb-true (octet4 w) (octet4 k) (t3 .1) i))
-          ∙ packed-word k)
+  pub differs-first : (w / 16777216 ≡ k / 16777216 → ⊥) → Differs w k 0
+  differs-first d = record { low = omega arith; before = λ j h. absurd (omega arith); at = ne-eqb (octet1 w) (octet1 k) d }
 
-  pub four-same : (u : ℕ) → 4 ≤ u → eqb w k ≡ startSame w k u
-  unfolding startSame
-  four-same u h =
-      all-same
-      ∙ (λ i.
-      (not (sym (lt-ltb 0 u (omega arith)) i) || eqb (octet1 w) (octet1 k))
-      && ((not (sym (lt-ltb 1 u (omega arith)) i) || eqb (octet2 w) (octet2 k))
-      && ((not (sym (lt-ltb 2 u (omega arith)) i) || eqb (octet3 w) (octet3 k)) && (not (sym (lt-ltb 3 u (omega arith)) i) || eqb (octet4 w) (octet4 k)))))
+-- how many of n octets are the same, where those before `from` are and the next two words are not
+pub record SameBefore (w k from n r : ℕ) : Type 0 where
+  pub at : ℕ
+  pub differs : Differs w k at
+  pub is : r ≡ cond (ltb (from + at) n) (from + at) n
 
--- m words from the j-th on, of which the first n octets of all count
-abbrev pub sameFrom : List ℕ → List ℕ → ℕ → ℕ → ℕ → Bool
-sameFrom xs ks n zero j = true
-sameFrom xs ks n (suc m) j = startSame (getD xs j 0) (getD ks j 0) (n - 4 * j) && sameFrom xs ks n m (suc j)
+-- The words of a filter and of a key, compared as far as n octets: all octets before word j are the same.
+module _ (xs ks : List ℕ) (j : ℕ) (all : allBelow (sameIn xs ks) (4 * j) ≡ true) where
+  -- so they are up to octet i of that word
+  up-to : (i : ℕ) → i ≤ 4 → ((q : ℕ) → q < i → sameOctet (getD xs j 0) (getD ks j 0) q ≡ true) → allBelow (sameIn xs ks) (4 * j + i) ≡ true
+  up-to i few here = below-all (sameIn xs ks) (4 * j + i) (λ q h. go q h (decLt q (4 * j)))
+    where
+      go : (q : ℕ) → q < 4 * j + i → Dec (q < 4 * j) → sameIn xs ks q ≡ true
+      go q h (yes l) = below-each (sameIn xs ks) (4 * j) all q l
+      go q h (no l) =
+          let e : q / 4 ≡ j = omega arith in
+          ap (λ (p : ℕ). sameOctet (getD xs p 0) (getD ks p 0) (q % 4)) e ∙ here (q % 4) (omega arith)
 
--- behind the octets that count none is compared
-same-past : (xs ks : List ℕ) (n m j : ℕ) → n ≤ 4 * j → sameFrom xs ks n m j ≡ true
-same-past xs ks n zero j h = refl
-same-past xs ks n (suc m) j h =
-    let z : n - 4 * j ≡ 0 = omega arith in
-    λ i. (ap (startSame (getD xs j 0) (getD ks j 0)) z ∙ none-same (getD xs j 0) (getD ks j 0)) i && same-past xs ks n m (suc j) (omega arith) i
+  -- it is the same in both
+  pub word-same : getD xs j 0 ≡ getD ks j 0 → allBelow (sameIn xs ks) (4 * j + 4) ≡ true
+  word-same e = up-to 4 (omega arith) (λ q h. eq-eqb (octetOf q (getD xs j 0)) (octetOf q (getD ks j 0)) (ap (octetOf q) e))
 
--- A word decides if the last octet that counts stands in it; a word before that one leaves the answer to the next if it is the same, and ends
--- it if it is not.
-module _ (xs ks : List ℕ) (n m j : ℕ) where
-  pub word-decides : n ≤ 4 * j + 4 → startSame (getD xs j 0) (getD ks j 0) (n - 4 * j) ≡ sameFrom xs ks n (suc m) j
-  word-decides h =
-      sym (and-true (startSame (getD xs j 0) (getD ks j 0) (n - 4 * j)))
-      ∙ ap (λ (b : Bool). startSame (getD xs j 0) (getD ks j 0) (n - 4 * j) && b) (sym (same-past xs ks n m (suc j) (omega arith)))
+  -- it is not
+  pub word-differs : (i n : ℕ) → Differs (getD xs j 0) (getD ks j 0) i → cond (ltb (4 * j + i) n) (4 * j + i) n ≡ leading (sameIn xs ks) n
+  word-differs i n d = go (ltb (4 * j + i) n) refl
+    where
+      upto : allBelow (sameIn xs ks) (4 * j + i) ≡ true
+      upto = up-to i (omega (arith, d .low)) (d .before)
 
-  whole : 4 * j + 4 ≤ n → (eqb (getD xs j 0) (getD ks j 0) && sameFrom xs ks n m (suc j)) ≡ sameFrom xs ks n (suc m) j
-  whole h = ap (λ (b : Bool). b && sameFrom xs ks n m (suc j)) (four-same (getD xs j 0) (getD ks j 0) (n - 4 * j) (omega arith))
+      here : sameIn xs ks (4 * j + i) ≡ false
+      here =
+          let e : (4 * j + i) / 4 ≡ j = omega (arith, d .low) in
+          let f : (4 * j + i) % 4 ≡ i = omega (arith, d .low) in
+          (λ p. sameOctet (getD xs (e p) 0) (getD ks (e p) 0) (f p)) ∙ d .at
 
-  pub word-differs : 4 * j + 4 ≤ n → (getD xs j 0 ≡ getD ks j 0 → ⊥) → false ≡ sameFrom xs ks n (suc m) j
-  word-differs h e = ap (λ (b : Bool). b && sameFrom xs ks n m (suc j)) (sym (ne-eqb (getD xs j 0) (getD ks j 0) e)) ∙ whole h
+      go : (b : Bool) → ltb (4 * j + i) n ≡ b → cond b (4 * j + i) n ≡ leading (sameIn xs ks) n
+      go true e = sym (leading-to (sameIn xs ks) n (4 * j + i) (omega (arith, ltb-true (4 * j + i) n e)) upto here)
+      go false e =
+          sym
+          (leading-all (sameIn xs ks) n
+          (below-all (sameIn xs ks) n (λ q h. below-each (sameIn xs ks) (4 * j + i) upto q (omega (arith, ltb-false (4 * j + i) n e)))))
 
-  pub word-same : 4 * j + 4 ≤ n → getD xs j 0 ≡ getD ks j 0 → sameFrom xs ks n m (suc j) ≡ sameFrom xs ks n (suc m) j
-  word-same h e = ap (λ (b : Bool). b && sameFrom xs ks n m (suc j)) (sym (eq-eqb (getD xs j 0) (getD ks j 0) e)) ∙ whole h
+-- and there are no more
+pub words-end : (xs ks : List ℕ) (k n : ℕ) → allBelow (sameIn xs ks) k ≡ true → n ≤ k → n ≡ leading (sameIn xs ks) n
+words-end xs ks k n all h =
+    sym (leading-all (sameIn xs ks) n (below-all (sameIn xs ks) n (λ q l. below-each (sameIn xs ks) k all q (omega arith))))
 
--- The filter of the route that the words xs begin with fits a key exactly where it is not longer and its words' first octets are those
--- of the key's words `five`.
+-- Twenty octets are five words.
+octets-word : (w : ℕ) (rest : List ℕ) (q : ℕ) → q < 4 → getD (octetsIn w rest) q 0 ≡ octetOf q w
+octets-word w rest zero h = refl
+octets-word w rest (suc zero) h = refl
+octets-word w rest (suc (suc zero)) h = refl
+octets-word w rest (suc (suc (suc zero))) h = refl
+octets-word w rest (suc (suc (suc (suc q)))) h = absurd (omega arith)
+
+abbrev octetsOf : List ℕ → List ℕ
+octetsOf [] = []
+octetsOf (w ∷ ws) = octetsIn w (octetsOf ws)
+
+octets-of : (ws : List ℕ) (q : ℕ) → q < 4 * length ws → getD (octetsOf ws) q 0 ≡ octetOf (q % 4) (getD ws (q / 4) 0)
+octets-of [] q h = absurd (omega arith)
+octets-of (w ∷ ws) (suc (suc (suc (suc q)))) h =
+    let e : suc (q / 4) ≡ suc (suc (suc (suc q))) / 4 = omega arith in
+    let f : q % 4 ≡ suc (suc (suc (suc q))) % 4 = omega arith in
+    octets-of ws q (omega arith) ∙ (λ p. octetOf (f p) (getD (w ∷ ws) (e p) 0))
+octets-of (w ∷ ws) zero h = refl
+octets-of (w ∷ ws) (suc zero) h = refl
+octets-of (w ∷ ws) (suc (suc zero)) h = refl
+octets-of (w ∷ ws) (suc (suc (suc zero))) h = refl
+
+-- the first five words of a route
+first-five : (xs : List ℕ) (j : ℕ) → j < 5 → getD (getD xs 0 0 ∷ getD xs 1 0 ∷ getD xs 2 0 ∷ getD xs 3 0 ∷ getD xs 4 0 ∷ []) j 0 ≡ getD xs j 0
+first-five xs zero h = refl
+first-five xs (suc zero) h = refl
+first-five xs (suc (suc zero)) h = refl
+first-five xs (suc (suc (suc zero))) h = refl
+first-five xs (suc (suc (suc (suc zero)))) h = refl
+first-five xs (suc (suc (suc (suc (suc j))))) h = absurd (omega arith)
+
+filter-at : (xs : List ℕ) (q : ℕ) → q < 20 → getD (settingsIn xs .filter) q 0 ≡ octetOf (q % 4) (getD xs (q / 4) 0)
+filter-at xs q h =
+    octets-of (getD xs 0 0 ∷ getD xs 1 0 ∷ getD xs 2 0 ∷ getD xs 3 0 ∷ getD xs 4 0 ∷ []) q (omega arith)
+    ∙ ap (octetOf (q % 4)) (first-five xs (q / 4) (omega arith))
+
+-- and those of a key
+module _ (key : List ℕ) (o : Octets key) where
+  four-at : (k i : ℕ) → i < 4 → octetOf i (fourAt key k) ≡ getD key (k + i) 0
+  four-at k zero h =
+      let e : k ≡ k + 0 = omega arith in
+      octet1-packed (getD key k 0) (getD key (k + 1) 0) (getD key (k + 2) 0) (getD key (k + 3) 0) (o .at (k + 1)) (o .at (k + 2)) (o .at (k + 3))
+      ∙ ap (λ (p : ℕ). getD key p 0) e
+  four-at k (suc zero) h =
+      octet2-packed (getD key k 0) (getD key (k + 1) 0) (getD key (k + 2) 0) (getD key (k + 3) 0) (o .at (k + 1)) (o .at (k + 2)) (o .at (k + 3))
+  four-at k (suc (suc zero)) h =
+      octet3-packed (getD key k 0) (getD key (k + 1) 0) (getD key (k + 2) 0) (getD key (k + 3) 0) (o .at (k + 1)) (o .at (k + 2)) (o .at (k + 3))
+  four-at k (suc (suc (suc zero))) h =
+      octet4-packed (getD key k 0) (getD key (k + 1) 0) (getD key (k + 2) 0) (getD key (k + 3) 0) (o .at (k + 1)) (o .at (k + 2)) (o .at (k + 3))
+  four-at k (suc (suc (suc (suc i)))) h = absurd (omega arith)
+
+  five-at : (j : ℕ) → j < 5 → getD (fiveWords key) j 0 ≡ fourAt key (4 * j)
+  five-at zero h = refl
+  five-at (suc zero) h = refl
+  five-at (suc (suc zero)) h = refl
+  five-at (suc (suc (suc zero))) h = refl
+  five-at (suc (suc (suc (suc zero)))) h = refl
+  five-at (suc (suc (suc (suc (suc j))))) h = absurd (omega arith)
+
+  key-at : (q : ℕ) → q < 20 → octetOf (q % 4) (getD (fiveWords key) (q / 4) 0) ≡ getD key q 0
+  key-at q h =
+      let e : 4 * (q / 4) + q % 4 ≡ q = omega arith in
+      ap (octetOf (q % 4)) (five-at (q / 4) (omega arith)) ∙ four-at (4 * (q / 4)) (q % 4) (omega arith) ∙ ap (λ (p : ℕ). getD key p 0) e
+
+-- The filter of the route that the words xs begin with, and a key, of which `five` are the words: how many octets are the same from the
+-- first on says whether it fits and how many are compared.
 module _ (xs key five : List ℕ) (o : Octets key) (same : five ≡ fiveWords key) (short : settingsIn xs .octets ≤ 20) where
-  pub fits-words : {n : ℕ} → n ≡ settingsIn xs .octets → {b : Bool} → b ≡ sameFrom xs five n 5 0 → (leb n (length key) && b) ≡ fits (settingsIn xs) key
+  abbrev n : ℕ
+  n = settingsIn xs .octets
+
+  abbrev f : ℕ → Bool
+  f = sameAt (settingsIn xs .filter) key
+
+  pub in-words : leading (sameIn xs five) n ≡ leading f n
+  in-words =
+      ap (λ (l : List ℕ). leading (sameIn xs l) n) same
+      ∙ leading-same (sameIn xs (fiveWords key)) f n
+      (λ q h. λ p. eqb (sym (filter-at xs q (omega arith)) p) (key-at key o q (omega arith) p))
+
+  module _ {k : ℕ} (e : k ≡ leading (sameIn xs five) n) where
+    is : k ≡ leading f n
+    is = e ∙ in-words
+
+    pub few : k ≤ 20
+    few = omega (arith, is, leading-most f n)
+
+    -- one differs
+    pub differs-unfit : k < n → false ≡ fits (settingsIn xs) key
+    unfolding fits
+    differs-unfit h = sym (and-no (leb n (length key)) (leading-short f n (omega (arith, is))))
+      where
+        and-no : (a : Bool) {b : Bool} → b ≡ false → (a && b) ≡ false
+        and-no true p = p
+        and-no false p = refl
+
+    pub differs-compared : n ≤ length key → k < n → k + 1 ≡ comparedWith (settingsIn xs) key
+    differs-compared l h =
+        sym
+        ((λ p. cond (le-leb n (length key) l p) (cond (ltb (leading f n) n) (leading f n + 1) n) 0)
+        ∙ (λ p. cond (ltb (sym is p) n) (sym is p + 1) n)
+        ∙ ap (λ (b : Bool). cond b (k + 1) n) (lt-ltb k n h))
+
+    -- none does
+    pub same-fits : n ≤ length key → n ≤ k → true ≡ fits (settingsIn xs) key
+    unfolding fits
+    same-fits l h = sym (λ p. le-leb n (length key) l p && leading-whole f n (omega (arith, is)) p)
+
+    pub same-compared : n ≤ length key → n ≤ k → n ≡ comparedWith (settingsIn xs) key
+    same-compared l h =
+        sym
+        ((λ p. cond (le-leb n (length key) l p) (cond (ltb (leading f n) n) (leading f n + 1) n) 0)
+        ∙ (λ p. cond (ltb (sym is p) n) (sym is p + 1) n)
+        ∙ ap (λ (b : Bool). cond b (k + 1) n) (le-ltb k n h))
+
+-- a filter that is longer than the key
+module _ (s : RouteSettings) (key : List ℕ) (long : length key < s .octets) where
+  pub long-unfit : false ≡ fits s key
   unfolding fits
-  fits-words {n} p eb =
-      let k = settingsIn xs .octets in
-      let first : k - 0 ≡ k = omega arith in
-      let at : (j d : ℕ) → Bool = λ (j d : ℕ). startSame (getD xs j 0) (fourAt key d) (k - d) in
-      let words : sameFrom xs (fiveWords key) k 5 0 ≡ alike (settingsIn xs .filter) key k =
-      (λ i. startSame (getD xs 0 0) (fourAt key 0) (first i) && (at 1 4 && (at 2 8 && (at 3 12 && and-true (at 4 16) i))))
-      ∙ sym (regroup (startSame (getD xs 0 0) (fourAt key 0) k) (at 1 4) (at 2 8) (at 3 12) (at 4 16))
-      ∙ sym (prefix-words key o (getD xs 0 0) (getD xs 1 0) (getD xs 2 0) (getD xs 3 0) (getD xs 4 0) k short) in
-      (λ i. leb (p i) (length key) && (eb ∙ (λ j. sameFrom xs (same j) (p j) 5 0) ∙ words) i)
+  long-unfit = ap (λ (b : Bool). b && alike (s .filter) key (s .octets)) (sym (lt-leb (s .octets) (length key) long))
+
+  pub long-compared : 0 ≡ comparedWith s key
+  long-compared = sym (rw (lt-leb (s .octets) (length key) long))

@@ -1,15 +1,30 @@
-// Routing (document 01, Routing and loss): a key goes to the route with the longest filter that is a prefix of it. The key's octets
-// are packed once, and filters are compared as words: laid out as octets first, they would be waited for.
+// Routing (document 01, Routing and loss; document 02, ask 7): a key goes to the route with the longest filter that is a prefix of it, and the
+// octets that are compared for that are counted. The key's octets are packed once, and filters are compared as words, up to the
+// first octet that differs: laid out as octets first, they would be waited for.
 ghost use mathlib.Core.Path.{_≡_};
-ghost use Prim.Native.Nat.{_≤_};
+ghost use Prim.Native.Nat.{_+_, _≤_};
 ghost use lib.ListN.{length, getD};
+ghost use Rattle.refusals.specs.Below.{leading};
 ghost use Rattle.state.specs.Routing.{Routable, fits, chosen, better, routeOf};
+ghost use Rattle.state.specs.Compared.{comparedWith, comparedFor};
 ghost use Rattle.words.specs.Words.{settingsIn, managerIn, fourAt, fiveWords};
-ghost use Rattle.routing.specs.Prefix.{startSame, sameFrom};
+ghost use Rattle.routing.specs.Prefix.{sameIn, Differs, SameBefore};
 use state::Routed;
 use words::count_of;
 use words::packed;
 use words::top_of;
+
+// What comparing a filter with a key says: whether it fits, and how many octets were compared.
+struct Compared {
+    fits: bool,
+    octets: u8,
+}
+
+// What routing found, and how many octets of filters were compared for it (document 01: counted comparisons, carried in the result).
+pub struct Counted {
+    pub routed: Routed,
+    pub compared: u8,
+}
 
 // The octet k of a key, 0 where there is none.
 fn octet_at(key: &[u8], k: usize) -> u8
@@ -45,65 +60,92 @@ fn key_words(key: &[u8]) -> [u32; 5]
     [one, two, three, four, five]
 }
 
-// Whether the first u octets of two words are the same.
-fn same_start(w: u32, k: u32, u: u32) -> bool
-    ensures { λ b. ⌜ b ≡ startSame w k u ⌝ }
+// The first octet in which two words differ; looked for from the last on, since filters of one network differ late.
+fn differs_at(w: u32, k: u32) -> u32
+    requires { ⌜ (w ≡ k → ⊥) ⌝ }
+    ensures { λ i. ⌜ Differs w k i ⌝ }
 {
-    if 4 <= u {
-        return w == k;
+    if w / 256 == k / 256 {
+        return 3;
     }
-    if u == 0 {
-        return true;
+    if w / 65536 == k / 65536 {
+        return 2;
     }
-    if u == 1 {
-        return w / 16777216 == k / 16777216;
+    if w / 16777216 == k / 16777216 {
+        return 1;
     }
-    if u == 2 {
-        return w / 65536 == k / 65536;
-    }
-    w / 256 == k / 256
+    0
 }
 
-// Whether the first n octets of five words are those of five others: word by word, up to the one in which the last of them stands.
-fn same_first(part: &[u32], five: &[u32; 5], n: u32) -> bool
-    requires { ⌜ 19 ≤ length (now part) ⌝ }
-    ensures { λ b. ⌜ b ≡ sameFrom (now (part .entry)) (now (five .entry)) n 5 0 ⌝ }
+// How many of the first n octets are the same, where the words before `from` octets are and the next two, w and k, are not.
+fn same_before(w: u32, k: u32, from: u32, n: u32) -> u32
+    requires { ⌜ (w ≡ k → ⊥) × (from ≤ 16) ⌝ }
+    ensures { λ r. ⌜ SameBefore w k from n r ⌝ }
 {
-    if n <= 4 {
-        return same_start(part[0], five[0], n);
-    }
+    let at = from + differs_at(w, k);
+    if at < n { at } else { n }
+}
+
+// How many of the first n octets of five words are those of five others, from the first on: word by word, up to the first that
+// differs, or the one in which the last of them stands.
+fn same_first(part: &[u32], five: &[u32; 5], n: u32) -> u32
+    requires { ⌜ (19 ≤ length (now part)) × (n ≤ 20) ⌝ }
+    ensures { λ r. ⌜ r ≡ leading (sameIn (now (part .entry)) (now (five .entry))) n ⌝ }
+{
     if part[0] != five[0] {
-        return false;
+        return same_before(part[0], five[0], 0, n);
     }
-    if n <= 8 {
-        return same_start(part[1], five[1], n - 4);
+    if n <= 4 {
+        return n;
     }
     if part[1] != five[1] {
-        return false;
+        return same_before(part[1], five[1], 4, n);
     }
-    if n <= 12 {
-        return same_start(part[2], five[2], n - 8);
+    if n <= 8 {
+        return n;
     }
     if part[2] != five[2] {
-        return false;
+        return same_before(part[2], five[2], 8, n);
     }
-    if n <= 16 {
-        return same_start(part[3], five[3], n - 12);
+    if n <= 12 {
+        return n;
     }
     if part[3] != five[3] {
-        return false;
+        return same_before(part[3], five[3], 12, n);
     }
-    same_start(part[4], five[4], n - 16)
+    if n <= 16 {
+        return n;
+    }
+    if part[4] != five[4] {
+        return same_before(part[4], five[4], 16, n);
+    }
+    n
 }
 
-// Whether the filter of the route whose words these begin with is a prefix of the key, of which `five` are the words.
-fn is_prefix(part: &[u32], key: &[u8], five: &[u32; 5]) -> bool
+// Compares the filter of the route whose words these begin with and the key, of which `five` are the words. A filter that is longer than
+// the key is not looked at.
+fn compare(part: &[u32], key: &[u8], five: &[u32; 5]) -> Compared
     requires { ⌜ (19 ≤ length (now part)) × (settingsIn (now part) .octets ≤ 20) × (now five ≡ fiveWords (now key)) ⌝ }
-    ensures { λ r. ⌜ r ≡ fits (settingsIn (now (part .entry))) (now (key .entry)) ⌝ }
+    ensures { λ r. ⌜ (r .fits ≡ fits (settingsIn (now (part .entry))) (now (key .entry))) × (r .octets ≡ comparedWith (settingsIn (now (part .entry))) (now (key .entry))) ⌝ }
 {
     let octets = top_of(part[5]);
+    if key.len() < octets as usize {
+        return Compared {
+            fits: false,
+            octets: 0,
+        };
+    }
     let same = same_first(part, five, octets as u32);
-    (octets as usize <= key.len()) & same
+    if same < octets as u32 {
+        return Compared {
+            fits: false,
+            octets: same as u8 + 1,
+        };
+    }
+    Compared {
+        fits: true,
+        octets: octets,
+    }
 }
 
 // The better of the route found so far and route i, whose filter has so many octets and fits or not.
@@ -121,33 +163,41 @@ fn better_of(b: Routed, i: u8, octets: u8, fit: bool) -> Routed
     }
 }
 
-// The better of the route found so far and route i, whose words these begin with.
-fn better_in(b: Routed, i: u8, part: &[u32], key: &[u8], five: &[u32; 5]) -> Routed
-    requires { ⌜ (19 ≤ length (now part)) × (settingsIn (now part) .octets ≤ 20) × (now five ≡ fiveWords (now key)) ⌝ }
-    ensures { λ r. ⌜ r ≡ better b i (settingsIn (now (part .entry))) (now (key .entry)) ⌝ }
+// What routing has found with route i too, whose words these begin with.
+fn found_with(c: Counted, i: u8, part: &[u32], key: &[u8], five: &[u32; 5]) -> Counted
+    requires { ⌜ (19 ≤ length (now part)) × (settingsIn (now part) .octets ≤ 20) × (now five ≡ fiveWords (now key)) × (c .compared ≤ 140) ⌝ }
+    ensures { λ r. ⌜ (r .routed ≡ better (c .routed) i (settingsIn (now (part .entry))) (now (key .entry))) × (r .compared ≡ c .compared + comparedWith (settingsIn (now (part .entry))) (now (key .entry))) ⌝ }
 {
     let octets = top_of(part[5]);
-    let fit = is_prefix(part, key, five);
-    better_of(b, i, octets, fit)
+    let filter = compare(part, key, five);
+    let routed = better_of(c.routed, i, octets, filter.fits);
+    Counted {
+        routed: routed,
+        compared: c.compared + filter.octets,
+    }
 }
 
-// The route that a key goes to.
-pub fn route_of(words: &[u32], key: &[u8]) -> Routed
+// The route that a key goes to, and how many octets of filters were compared for that.
+pub fn route_of(words: &[u32], key: &[u8]) -> Counted
     requires { ⌜ (length (now words) ≡ 360) × Routable (managerIn (now words)) ⌝ }
-    ensures { λ r. ⌜ r ≡ routeOf (managerIn (now (words .entry))) (now (key .entry)) ⌝ }
+    ensures { λ r. ⌜ (r .routed ≡ routeOf (managerIn (now (words .entry))) (now (key .entry))) × (r .compared ≡ comparedFor (managerIn (now (words .entry))) (now (key .entry))) ⌝ }
 {
     let n = count_of(words);
     let five = key_words(key);
-    let mut b = Routed {
+    let nobody = Routed {
         found: false,
         at: 0,
         octets: 0,
     };
+    let mut c = Counted {
+        routed: nobody,
+        compared: 0,
+    };
     let mut i: usize = 0;
     while i < n {
         let at = 8 + 19 * i;
-        b = better_in(b, i as u8, &words[at..], key, &five);
+        c = found_with(c, i as u8, &words[at..], key, &five);
         i += 1;
     }
-    b
+    c
 }

@@ -3,6 +3,7 @@ pub mod SetTimes
 pub mod Size
 pub mod Loss
 pub mod Routing
+pub mod Compared
 pub mod Bounds
 pub mod Empty
 pub mod Regions

@@ -7,7 +7,7 @@
 //!
 //! The proved program is `../target/bin/cdrgate`, or what CDRGATE_BIN names.
 
-use leveehum::audit::{audit, Counts, Tally, TOLD};
+use leveehum::audit::{audit, Counts, Tally, COMPARISONS, TOLD};
 use leveehum::gate;
 use leveehum::manager::MOST_ROUTES;
 use leveehum::program::{contents, ended_lines, lessons, proved_program, run_proved};
@@ -148,7 +148,8 @@ fn compare_random(count: usize) -> Result<(), String> {
         counts.balances, counts.full_balances
     );
     let complete = [
-        complete_told(&counts.told),
+        complete_kinds("files that told", TOLD.map(|(kind, _)| kind), &counts.told),
+        complete_kinds("filters compared", COMPARISONS, &counts.comparisons),
         counts.full_balances > 0,
         complete("refusals", &counts.refusals, &REFUSALS),
         complete("outcomes", &counts.outcomes, &OUTCOMES),
@@ -181,14 +182,14 @@ fn complete(name: &str, tally: &Tally, expected: &[u32]) -> bool {
     expected.iter().all(|number| tally.contains_key(number))
 }
 
-/// Prints how many files told each kind of losses; whether some did.
-fn complete_told(told: &[usize; TOLD.len()]) -> bool {
-    let kinds = TOLD.iter().zip(told);
+/// Prints how often each kind came; whether each did.
+fn complete_kinds<const N: usize>(name: &str, kinds: [&str; N], times: &[usize; N]) -> bool {
+    let kinds = kinds.iter().zip(times);
     let shown: Vec<String> = kinds
-        .map(|((kind, _), times)| format!("{kind}: {times}"))
+        .map(|(kind, times)| format!("{kind}: {times}"))
         .collect();
-    println!("{:16} {}", "files that told", shown.join(", "));
-    !told.contains(&0)
+    println!("{name:16} {}", shown.join(", "));
+    !times.contains(&0)
 }
 
 /// Gives scripts to one process, one behind another; each has a manager of its own.

@@ -57,7 +57,7 @@ start c = from2 (behind3 (behind4 c))
 
 -- the route that it goes to
 abbrev at : tie.Else4 → ℕ
-at c = c .before .before .routed-to .result .at
+at c = c .before .before .routed-to .result .routed .at
 
 -- the words are as many as a state has
 right : (c : tie.Else1) → length (from1 c .args .words .now) ≡ 360
@@ -80,11 +80,11 @@ unfolding managerIn
 time-is c = c .effective-time .ensures
 
 -- the record is routed, to a route that is configured
-found : (c : tie.Else4) → c .before .before .routed-to .result .found ≡ true
+found : (c : tie.Else4) → c .before .before .routed-to .result .routed .found ≡ true
 found c = not-false _ (c .if4 .left)
 
 route : (c : tie.Else4) → (start c .args .a .mark ≡ 2 → ⊥) × (at c < state (start c) .count)
-route c = routed (state (start c)) (start c .args .a) (start c .args .key .now) (c .before .before .routed-to .ensures) (found c)
+route c = routed (state (start c)) (start c .args .a) (start c .args .key .now) (c .before .before .routed-to .ensures .0) (found c)
 
 few : (c : tie.Else4) → at c < 8
 few c = omega (arith, route c .1, bounds (behind3 (behind4 c)) .few)
@@ -203,9 +203,9 @@ returns-4 c =
     let e = behind3 f in
     let s = from2 e in
     let a = s .args in
-    way-told (a .words .now) (a .store .now) (a .output .now) (event s) (right (behind2 e)) (unroutedOr (state s) (d .effective-time .result)) (c .before .before .unrouted .ensures)
-    (ap (λ (t : ℕ). after (unroutedOr (state s) t) (a .store .now) (a .output .now)) (time-is d)
-    ∙ receive-unrouted (state s) (a .store .now) (a .output .now) (a .time) (a .a) (a .key .now) (a .body .now) (passed e) (passed5 f) (to .routed-to .ensures) (not-true _ (c .before .before .before .before .if4 .taken)))
+    way-told (a .words .now) (a .store .now) (a .output .now) (event s) (right (behind2 e)) (unroutedOr (state s) (d .effective-time .result) (to .routed-to .result .compared)) (c .before .before .unrouted .ensures)
+    (ap (λ (t : ℕ). after (unroutedOr (state s) t (to .routed-to .result .compared)) (a .store .now) (a .output .now)) (time-is d)
+    ∙ receive-unrouted (state s) (a .store .now) (a .output .now) (a .time) (a .a) (a .key .now) (a .body .now) (passed e) (passed5 f) (to .routed-to .ensures .1) (to .routed-to .ensures .0) (not-true _ (c .before .before .before .before .if4 .taken)))
 
 cast-i : tie.Need-cast-i
 cast-i c = search needs
@@ -235,9 +235,9 @@ returns-5 c =
     let s = from2 e in
     let a = s .args in
     let d = g .before .before .before .before in
-    way-told (a .words .now) (a .store .now) (a .output .now) (event s) (right (behind2 e)) (lostOr (state s) (d .effective-time .result) (at g)) (c .before .before .lost .ensures)
-    (ap (λ (t : ℕ). after (lostOr (state s) t (at g)) (a .store .now) (a .output .now)) (time-is d)
-    ∙ receive-lost (state s) (a .store .now) (a .output .now) (a .time) (a .a) (a .key .now) (a .body .now) (passed e) (passed5 f) (g .before .before .routed-to .ensures) (found g) (sym (lost-is (c .before .before .before .before .before)) ∙ c .before .before .before .before .if5 .taken))
+    way-told (a .words .now) (a .store .now) (a .output .now) (event s) (right (behind2 e)) (lostOr (state s) (d .effective-time .result) (at g) (g .before .before .routed-to .result .compared)) (c .before .before .lost .ensures)
+    (ap (λ (t : ℕ). after (lostOr (state s) t (at g) (g .before .before .routed-to .result .compared)) (a .store .now) (a .output .now)) (time-is d)
+    ∙ receive-lost (state s) (a .store .now) (a .output .now) (a .time) (a .a) (a .key .now) (a .body .now) (passed e) (passed5 f) (g .before .before .routed-to .ensures .1) (g .before .before .routed-to .ensures .0) (found g) (sym (lost-is (c .before .before .before .before .before)) ∙ c .before .before .before .before .if5 .taken))
 
 node-of-requires : tie.Need-node-of-requires
 node-of-requires c κs = right (behind2 (behind3 (behind4 (c .before .before .before .before .before .before))))
@@ -276,7 +276,7 @@ returns-6 c =
     let s = from2 e in
     let a = s .args in
     way-refused (a .words .now) (a .store .now) (a .output .now) (event s) (right (behind2 e)) 17 (q .place .result .octets) (c .refuse4 .ensures)
-    (receive-short (state s) (a .store .now) (a .output .now) (a .time) (a .a) (a .key .now) (a .body .now) (passed e) (passed5 f) (g .before .before .routed-to .ensures) (found g) (placed h) (time-is (g .before .before .before .before))
+    (receive-short (state s) (a .store .now) (a .output .now) (a .time) (a .a) (a .key .now) (a .body .now) (passed e) (passed5 f) (g .before .before .routed-to .ensures .1) (g .before .before .routed-to .ensures .0) (found g) (placed h) (time-is (g .before .before .before .before))
     (q .before .before .before .before .before .node-of .ensures) (q .before .before .before .region-base .ensures) (r .route-at .ensures .0) (there g) (q .place .ensures) (not-true _ (c .before .if6 .taken)))
 
 put-requires : tie.Need-put-requires
@@ -317,8 +317,8 @@ returns-7 c =
     let p = q .place .result in
     way-changed (a .words .now) (a .store .now) (a .output .now) (event s) (right (behind2 e)) (at g) (few g) (p .route)
     (ap (λ (x : Route). x .settings) (route-left q fits) ∙ finished-settings (r .route-at .result) (a .a) (length (a .body .now)) (d .effective-time .result) ∙ ap (λ (x : Route). x .settings) (r .route-at .ensures .0))
-    (d .effective-time .result) 2 (p .files) (p .octets) (c .accept .ensures) (c .before .before .before .put .ensures)
-    (receive-placed (state s) (a .store .now) (a .output .now) (a .time) (a .a) (a .key .now) (a .body .now) (passed e) (passed5 f) (g .before .before .routed-to .ensures) (found g) (placed h) (time-is d)
+    (d .effective-time .result) 2 (p .files) (p .octets) (g .before .before .routed-to .result .compared) (c .accept .ensures) (c .before .before .before .put .ensures)
+    (receive-placed (state s) (a .store .now) (a .output .now) (a .time) (a .a) (a .key .now) (a .body .now) (passed e) (passed5 f) (g .before .before .routed-to .ensures .1) (g .before .before .routed-to .ensures .0) (found g) (placed h) (time-is d)
     (q .before .before .before .before .before .node-of .ensures) (q .before .before .before .region-base .ensures) (r .route-at .ensures .0) (there g) (q .place .ensures) fits)
 
 pub receive-spec : {M : Type 1} → statement M

@@ -170,7 +170,7 @@ returns-4 c =
     let out = c .before .before .before .before .before .before .before .before .close-file .ensures
     ∙ ap (splice (a .output .now) 0) (closed-as (state s) (a .store .now) (a .route) (a .reason) (c .before .before .before .before .before .before .before .before .before .before .before .before .before .before .before .node-of .ensures) q (c .before .before .before .before .before .before .before .before .before .before .before .before .before .region-base .ensures)) in
     way-changed (a .words .now) (a .store .now) (a .output .now) (event s) (right (e .before .before .before)) (a .route) (there e) (r .result)
-    (ap (λ (x : Route). x .settings) (r .ensures) ∙ ap (λ (x : Route). x .settings) q) (c .before .before .before .before .before .before .before .before .before .before .before .effective-time .result) 5 1 (f .closed-size .result)
+    (ap (λ (x : Route). x .settings) (r .ensures) ∙ ap (λ (x : Route). x .settings) q) (c .before .before .before .before .before .before .before .before .before .before .before .effective-time .result) 5 1 (f .closed-size .result) 0
     (c .accept .ensures) (c .before .before .before .put .ensures)
     (closed-made (state s) (a .store .now) (a .output .now) (a .time) (a .route) (a .reason) (time-is (c .before .before .before .before .before .before .before .before .before .before .before)) q (f .closed-size .ensures) (r .ensures) out
     ∙ close-done (state s) (a .store .now) (a .output .now) (a .time) (a .route) (a .reason) (passes e) (omega (arith, size-is f, c .before .before .before .before .before .before .before .before .before .before .before .before .before .before .before .before .before .if3 .left)))

@@ -119,7 +119,7 @@ returns-3 c =
     let r = c .before .before .before .before .before .opened-route in
     let q = c .before .before .before .before .before .before .before .before .route-at in
     way-changed (a .words .now) (a .store .now) (a .output .now) (event s) (right (e .before .before .before)) (a .route) (there e) (r .result)
-    (ap (λ (x : Route). x .settings) (r .ensures) ∙ ap (λ (x : Route). x .settings) (q .ensures .0)) (d .effective-time .result) 1 0 0
+    (ap (λ (x : Route). x .settings) (r .ensures) ∙ ap (λ (x : Route). x .settings) (q .ensures .0)) (d .effective-time .result) 1 0 0 0
     (c .accept .ensures) (c .before .before .before .put .ensures)
     (opened-made (state s) (a .store .now) (a .output .now) (a .time) (a .route) (time-is d) (q .ensures .0) (r .ensures)
     ∙ open-done (state s) (a .store .now) (a .output .now) (a .time) (a .route) (passes e))

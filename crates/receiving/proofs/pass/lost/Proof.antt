@@ -9,7 +9,7 @@ refuse-requires : tie.Need-refuse-requires
 refuse-requires c κs = search needs
 
 returns : tie.Need-returns
-returns c = let s = c .before .before .before .before in lost-refused (s .pre) (s .args .t) (c .before .if1 .taken) (c .refuse .ensures)
+returns c = let s = c .before .before .before .before in lost-refused (s .pre) (s .args .t) (s .args .compared) (c .before .if1 .taken) (c .refuse .ensures)
 
 add-r : tie.Need-add-r
 add-r c = search needs
@@ -29,7 +29,7 @@ same-length : tie.Need-same-length
 same-length c = search needs
 
 returns-2 : tie.Need-returns-2
-returns-2 c = let s = c .before .before .before .before .before .before .before .before .before in lost-done (s .pre) (s .args .t) (c .before .before .before .before .before .before .if1 .left) refl (c .accept .ensures) (c .before .before .before .put .ensures)
+returns-2 c = let s = c .before .before .before .before .before .before .before .before .before in lost-done (s .pre) (s .args .t) (s .args .compared) (c .before .before .before .before .before .before .if1 .left) refl (c .accept .ensures) (c .before .before .before .put .ensures)
 
 pub lost-spec : {M : Type 1} → statement M
 lost-spec =

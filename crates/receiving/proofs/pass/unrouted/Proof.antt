@@ -49,7 +49,7 @@ returns : tie.Need-returns
 returns c =
     let e = c .before .before in
     let s = start e in
-    unrouted-refused (s .args .words .now) (s .pre .0) (s .args .t) (sym (full-is e) ∙ c .before .if1 .taken) (c .refuse .ensures)
+    unrouted-refused (s .args .words .now) (s .pre .0) (s .args .t) (s .args .compared) (sym (full-is e) ∙ c .before .if1 .taken) (c .refuse .ensures)
 
 add-more : tie.Need-add-more
 add-more c =
@@ -81,7 +81,7 @@ unfolding managerIn
 returns-2 c =
     let e = c .before .before .before .before .before .before in
     let s = start e in
-    unrouted-done (s .args .words .now) (s .pre .0) (s .args .t) (sym (full-is e) ∙ rises (c .before .before .before .before .before)) (e .before .before .count-of .ensures) (c .accept .ensures) (c .before .before .before .note-routes .ensures)
+    unrouted-done (s .args .words .now) (s .pre .0) (s .args .t) (s .args .compared) (sym (full-is e) ∙ rises (c .before .before .before .before .before)) (e .before .before .count-of .ensures) (c .accept .ensures) (c .before .before .before .note-routes .ensures)
 
 pub unrouted-spec : {M : Type 1} → statement M
 unrouted-spec =
