@@ -1,5 +1,5 @@
 //! The output of the program `cdrgate` for a script of events, by the plain manager: to the letter
-//! of ../../shared/CDRGATE.md, with request 3.
+//! of ../../shared/CDRGATE.md, with requests 3, 6 and 7.
 
 #![forbid(unsafe_code)]
 

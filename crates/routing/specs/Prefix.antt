@@ -15,7 +15,7 @@ use Rattle.octets.specs.Alike.{sameAt, alike}
 use Rattle.octets.specs.Number.{Octets}
 use Rattle.state.specs.declared.RouteSettings.{RouteSettings}
 use Rattle.state.specs.Routing.{fits}
-use Rattle.state.specs.Compared.{comparedWith}
+use Rattle.state.specs.Compared.{upToDiffering, comparedWith}
 use Rattle.words.specs.Words.{octet1, octet2, octet3, octet4, octetsIn, filterIn, settingsIn, fourAt, fiveWords}
 use Rattle.words.specs.Laws.{octet1-packed, octet2-packed, octet3-packed, octet4-packed}
 
@@ -209,12 +209,12 @@ module _ (xs key five : List ℕ) (o : Octets key) (same : five ≡ fiveWords ke
         and-no true p = p
         and-no false p = refl
 
+    -- a filter that is not longer than the key
+    by-same : n ≤ length key → comparedWith (settingsIn xs) key ≡ upToDiffering k n
+    by-same l = (λ p. cond (le-leb n (length key) l p) (upToDiffering (leading f n) n) 0) ∙ ap (λ (j : ℕ). upToDiffering j n) (sym is)
+
     pub differs-compared : n ≤ length key → k < n → k + 1 ≡ comparedWith (settingsIn xs) key
-    differs-compared l h =
-        sym
-        ((λ p. cond (le-leb n (length key) l p) (cond (ltb (leading f n) n) (leading f n + 1) n) 0)
-        ∙ (λ p. cond (ltb (sym is p) n) (sym is p + 1) n)
-        ∙ ap (λ (b : Bool). cond b (k + 1) n) (lt-ltb k n h))
+    differs-compared l h = sym (by-same l ∙ ap (λ (b : Bool). cond b (k + 1) n) (lt-ltb k n h))
 
     -- none does
     pub same-fits : n ≤ length key → n ≤ k → true ≡ fits (settingsIn xs) key
@@ -222,11 +222,7 @@ module _ (xs key five : List ℕ) (o : Octets key) (same : five ≡ fiveWords ke
     same-fits l h = sym (λ p. le-leb n (length key) l p && leading-whole f n (omega (arith, is)) p)
 
     pub same-compared : n ≤ length key → n ≤ k → n ≡ comparedWith (settingsIn xs) key
-    same-compared l h =
-        sym
-        ((λ p. cond (le-leb n (length key) l p) (cond (ltb (leading f n) n) (leading f n + 1) n) 0)
-        ∙ (λ p. cond (ltb (sym is p) n) (sym is p + 1) n)
-        ∙ ap (λ (b : Bool). cond b (k + 1) n) (le-ltb k n h))
+    same-compared l h = sym (by-same l ∙ ap (λ (b : Bool). cond b (k + 1) n) (le-ltb k n h))
 
 -- a filter that is longer than the key
 module _ (s : RouteSettings) (key : List ℕ) (long : length key < s .octets) where
