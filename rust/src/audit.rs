@@ -8,6 +8,7 @@
 use crate::counts::LossCounts;
 use crate::gate::{self, Line, Received};
 use crate::manager::{indicator, NODE_OCTETS, ROUTE_OCTETS};
+use crate::packet::{self, Delivery, MOST_RECORDS};
 use crate::second::{self, Contents, EXTENDED};
 use std::collections::BTreeMap;
 
@@ -35,6 +36,15 @@ pub const COMPARISONS: [&str; 5] = [
     "between",
 ];
 
+/// What may come of a packet.
+pub const PACKETS: [&str; 5] = [
+    "refused whole",
+    "without records",
+    "all accepted",
+    "stopped half way",
+    "64 records",
+];
+
 /// What all scripts of a run came to.
 #[derive(Default)]
 pub struct Counts {
@@ -47,6 +57,10 @@ pub struct Counts {
     /// Filters that were compared with a key, by what that came to: each of `COMPARISONS`.
     pub comparisons: [usize; COMPARISONS.len()],
     pub records: usize,
+    /// The refusals at which packets ended, 0 for none.
+    pub packet_ends: Tally,
+    /// Packets by what came of them: each of `PACKETS`.
+    pub packets: [usize; PACKETS.len()],
     /// Closed files that told each of `TOLD`.
     pub told: [usize; TOLD.len()],
     /// Routes whose losses were balanced at a Q, and those of them with some told and some pending.
@@ -139,21 +153,99 @@ fn look<'a>(
             Ok(true)
         }
         (b'A', event) => {
-            let [refusal, outcome, route, files, octets, compared] = numbers(rest)?;
-            let [route, files, octets, compared] =
-                [route, files, octets, compared].map(|number| number as usize);
-            let answer = Answer {
-                refusal,
-                outcome,
-                route,
-                files,
+            settle(event, &answer(rest)?, accounts, answers, counts)?;
+            Ok(true)
+        }
+        (b'B', Line::Packet(octets)) => {
+            let [refusal, accepted] = numbers(rest)?;
+            look_at_packet(
                 octets,
-                compared,
-            };
-            settle(event, &answer, accounts, answers, counts)?;
+                refusal,
+                accepted as usize,
+                accounts,
+                answers,
+                counts,
+            )?;
             Ok(true)
         }
         _ => Err("an answer of another line".to_owned()),
+    }
+}
+
+/// The numbers behind an `A`.
+fn answer(line: &[u8]) -> Result<Answer, String> {
+    let [refusal, outcome, route, files, octets, compared] = numbers(line)?;
+    let [route, files, octets, compared] =
+        [route, files, octets, compared].map(|number| number as usize);
+    Ok(Answer {
+        refusal,
+        outcome,
+        route,
+        files,
+        octets,
+        compared,
+    })
+}
+
+/// Looks at a packet's records as at so many events: those that were accepted, and the one that was
+/// refused behind them.
+fn look_at_packet<'a>(
+    octets: &[u8],
+    refusal: u32,
+    accepted: usize,
+    accounts: &mut [Account],
+    answers: &mut impl Iterator<Item = &'a [u8]>,
+    counts: &mut Counts,
+) -> Result<(), String> {
+    *counts.packet_ends.entry(refusal).or_default() += 1;
+    let records = packet::count(octets);
+    if records.is_none() != (refusal == 11) {
+        return Err(format!("{refusal} for a packet of {records:?} records"));
+    }
+    let records = records.unwrap_or(0);
+    let tried = records.min(accepted + usize::from(refusal != 0));
+    if refusal == 0 && accepted != records {
+        return Err(format!("{accepted} of {records} records accepted"));
+    }
+    let kinds = [
+        tried == 0 && refusal != 0,
+        records == 0 && refusal == 0,
+        records > 0 && refusal == 0,
+        accepted > 0 && refusal != 0,
+        accepted == MOST_RECORDS,
+    ];
+    for (count, is_kind) in counts.packets.iter_mut().zip(kinds) {
+        *count += usize::from(is_kind);
+    }
+    let mut rest = octets;
+    for index in 0..tried {
+        let (delivery, behind) = packet::split_first(rest).ok_or("no such record")?;
+        let line = answers.next().and_then(|line| line.strip_prefix(b"A"));
+        let answer = answer(line.ok_or("a record's answer is missing")?)?;
+        if answer.refusal != if index < accepted { 0 } else { refusal } {
+            return Err(format!("record {index} refused with {}", answer.refusal));
+        }
+        settle(&event_of(&delivery), &answer, accounts, answers, counts)?;
+        rest = behind;
+    }
+    Ok(())
+}
+
+/// A packet's record as the event that it is.
+fn event_of(delivery: &Delivery) -> Line {
+    let arrival = delivery.arrival;
+    Line::Receive {
+        time: delivery.time,
+        record: Received {
+            mark: arrival.mark,
+            key: arrival.key.to_vec(),
+            release: arrival.release,
+            version: arrival.version,
+            extension: arrival.extension,
+            format: arrival.format,
+            ts: arrival.ts,
+            body: arrival.body.to_vec(),
+        },
     }
 }
 

@@ -1,9 +1,9 @@
 //! The output of the program `cdrgate` for a script of events, by the plain manager: to the letter
-//! of ../../shared/CDRGATE.md, with requests 3, 6 and 7.
+//! of ../../shared/CDRGATE.md, with requests 3, 6, 7 and 8.
 
 #![forbid(unsafe_code)]
 
-use crate::manager::{Accepted, Answer, Arrival, Manager, RouteState};
+use crate::manager::{Accepted, Answer, Arrival, Manager, RouteState, Taken};
 use std::io::Write;
 
 /// The most octets of a store and of an output.
@@ -24,6 +24,7 @@ pub enum Line {
     Close { time: u32, route: u32, reason: u32 },
     Tick { time: u32 },
     Receive { time: u32, record: Received },
+    Packet(Vec<u8>),
     State,
 }
 
@@ -87,6 +88,7 @@ pub fn parse(line: &[u8]) -> Option<Line> {
             time: number(words.next()?)?,
             record: received(&mut words)?,
         },
+        b"B" => Line::Packet(octets(words.next()?)?),
         b"Q" => Line::State,
         _ => return None,
     };
@@ -178,6 +180,7 @@ impl Gate {
                 print_state(self.manager.as_ref()?, printed);
                 Some(())
             }
+            Line::Packet(octets) => self.take_packet(&octets, printed),
             event => self.run(&event, printed),
         }
     }
@@ -222,21 +225,33 @@ impl Gate {
             _ => return None,
         };
         self.takes_store = false;
-        assert!(
-            manager.is_within_bounds(),
-            "18 would come at the next event"
-        );
-        print_answer(answer, printed);
-        print_files(
-            answer.map_or(&[], |accepted| &output[..accepted.octets]),
-            printed,
-        );
+        assert!(manager.is_within_bounds(), "18 would come next");
+        print_event(answer, output, printed);
+        Some(())
+    }
+
+    fn take_packet(&mut self, packet: &[u8], printed: &mut Vec<u8>) -> Option<()> {
+        let manager = self.manager.as_mut()?;
+        let mut output = &mut self.output[..self.window];
+        let taken = manager.take(&mut self.store, output, packet);
+        self.takes_store = false;
+        assert!(manager.is_within_bounds(), "18 would come next");
+        let Taken {
+            refusal,
+            accepted,
+            answers,
+        } = taken;
+        print(printed, format_args!("B {refusal} {accepted}"));
+        for answer in answers {
+            let octets = print_event(answer, output, printed);
+            output = &mut output[octets..];
+        }
         Some(())
     }
 }
 
 impl Received {
-    fn arrival(&self) -> Arrival<'_> {
+    pub fn arrival(&self) -> Arrival<'_> {
         Arrival {
             mark: self.mark,
             key: &self.key,
@@ -271,6 +286,14 @@ fn print_answer(answer: Answer, printed: &mut Vec<u8>) {
             );
         }
     }
+}
+
+/// Prints an answer and the files that stand at the output's start; how many octets these have.
+fn print_event(answer: Answer, output: &[u8], printed: &mut Vec<u8>) -> usize {
+    print_answer(answer, printed);
+    let octets = answer.map_or(0, |accepted| accepted.octets);
+    print_files(&output[..octets], printed);
+    octets
 }
 
 /// Prints files that stand one behind another, each as long as its first four octets say.
@@ -371,6 +394,28 @@ mod tests {
         ] {
             assert_eq!(number(wrong.as_bytes()), None, "{wrong}");
         }
+    }
+
+    #[test]
+    fn packets() {
+        // Time, mark, key length, release, version, extension, format, TS number, body length, body.
+        let record = [
+            "00000000", "00", "00", "04", "00", "00", "01", "00", "00000001", "A1",
+        ]
+        .concat();
+        assert_eq!(after_settings("B -\n"), "B 0 0\n");
+        assert_eq!(after_settings("B *975\nB 00\n"), "B 11 0\nB 11 0\n");
+        assert_eq!(
+            after_settings(&format!("B {record}{record}\n")),
+            "B 0 2\nA 0 2 0 0 0 0\nA 0 2 0 0 0 0\n"
+        );
+        let late = record.replacen("00000000", "FFFFFFFF", 1);
+        assert_eq!(
+            after_settings(&format!("B {record}{late}{record}\n")),
+            "B 4 1\nA 0 2 0 0 0 0\nA 4 0 0 0 0 0\n"
+        );
+        assert_eq!(after_settings("M 127\nB -\n"), "B 16 0\n");
+        assert_eq!(after_settings("B\n"), "E 2\n");
     }
 
     #[test]

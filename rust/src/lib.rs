@@ -20,6 +20,8 @@ pub mod inputs;
 pub mod manager;
 pub mod name;
 pub mod names;
+pub mod packet;
+pub mod packet_trials;
 pub mod program;
 #[cfg(feature = "proved")]
 pub mod proved;

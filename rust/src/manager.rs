@@ -6,6 +6,7 @@
 mod by_value;
 
 use crate::counts::{self, LossCounts};
+use crate::packet;
 use crate::second::{self, EXTENDED, FIXED, LAST_MINUTE, LONGEST_FILE, RESERVED, WIDEST_OFFSET};
 
 /// The most routes that settings may have.
@@ -65,6 +66,15 @@ pub struct Accepted {
 
 /// An event's answer; refused, it is the refusal's number and the needed octets (0 but for 17).
 pub type Answer = Result<Accepted, (u8, usize)>;
+
+/// What came of a packet: the refusal that stopped it or 0, how many records were accepted, and the
+/// answer of each that was tried.
+#[derive(Clone, Debug, Default, PartialEq, Eq)]
+pub struct Taken {
+    pub refusal: u8,
+    pub accepted: usize,
+    pub answers: Vec<Answer>,
+}
 
 /// What RECEIVE carries beside the time: its numbers have room for more than is right.
 #[derive(Clone, Copy, Debug, Default, PartialEq, Eq)]
@@ -331,6 +341,36 @@ impl Manager {
         };
         self.last = now;
         Ok(Accepted { compared, ..placed })
+    }
+
+    /// Takes a packet's records in, one behind another, up to the first that is refused; each is
+    /// lent what those before it left of the output.
+    pub fn take(&mut self, store: &mut [u8], mut output: &mut [u8], mut packet: &[u8]) -> Taken {
+        let records = packet::count(packet);
+        let mut taken = Taken::default();
+        taken.refusal = match records {
+            None => 11,
+            Some(0) if store.len() < self.regions => 16,
+            _ => 0,
+        };
+        if taken.refusal != 0 {
+            return taken;
+        }
+        taken.answers.reserve_exact(records.unwrap_or(0));
+        while let Some((delivery, behind)) = packet::split_first(packet) {
+            let answer = self.receive(store, output, delivery.time, &delivery.arrival);
+            taken.answers.push(answer);
+            match answer {
+                Ok(accepted) => output = &mut output[accepted.octets..],
+                Err((refusal, _)) => {
+                    taken.refusal = refusal;
+                    return taken;
+                }
+            }
+            taken.accepted += 1;
+            packet = behind;
+        }
+        taken
     }
 
     /// Whether the state is within every bound of refusal 18. This manager owns its state and never
@@ -1515,6 +1555,66 @@ mod tests {
         desk.open(0, 0);
         assert_eq!(desk.tick(10), [6, 255, 1, 61]);
         assert_eq!(desk.output[26], TOO_OLD);
+    }
+
+    /// Records of these versions and lengths of body, at time 5.
+    fn packet_of(records: &[(u32, usize)]) -> Vec<u8> {
+        let mut octets = Vec::new();
+        for &(version, length) in records {
+            let body = vec![0xAB; length];
+            let arrival = Arrival {
+                release: 4,
+                version,
+                body: &body,
+                ..Arrival::default()
+            };
+            packet::lay(&mut octets, &packet::Delivery { time: 5, arrival });
+        }
+        octets
+    }
+
+    impl Desk {
+        fn take(&mut self, output: usize, packet: &[u8]) -> (u8, usize, usize) {
+            let output = &mut self.output[..output];
+            let taken = self.manager.take(&mut self.store, output, packet);
+            (taken.refusal, taken.accepted, taken.answers.len())
+        }
+    }
+
+    #[test]
+    fn a_packet_stops_at_the_first_refusal_and_the_rest_stands() {
+        let mut desk = Desk::new(&[plain()]);
+        let stopped = packet_of(&[(3, 2), (32, 2), (3, 2)]);
+        assert_eq!(desk.take(0, &stopped), (5, 1, 2));
+        let mut alone = Desk::new(&[plain()]);
+        assert_eq!(alone.take(0, &packet_of(&[(3, 2)])), (0, 1, 1));
+        assert_eq!(desk.manager, alone.manager);
+        assert_eq!(desk.store, alone.store);
+    }
+
+    #[test]
+    fn each_record_of_a_packet_is_lent_what_the_others_left() {
+        let three = packet_of(&[(3, 40), (3, 40), (3, 40)]);
+        // Two files of 105 octets close.
+        for (output, taken) in [(210, (0, 3, 3)), (209, (17, 2, 3)), (104, (17, 1, 2))] {
+            let mut desk = Desk::new(&[plain()]);
+            assert_eq!(desk.take(output, &three), taken, "{output}");
+        }
+    }
+
+    #[test]
+    fn packets_that_are_refused_whole_change_nothing() {
+        let mut desk = Desk::new(&[plain()]);
+        let fresh = desk.manager.clone();
+        let mut cut = packet_of(&[(3, 2), (3, 2)]);
+        cut.pop();
+        assert_eq!(desk.take(0, &cut), (11, 0, 0));
+        assert_eq!(desk.take(0, &[0; 15 * 65]), (11, 0, 0));
+        assert_eq!(desk.take(0, &[]), (0, 0, 0));
+        desk.store.pop();
+        assert_eq!(desk.take(0, &[]), (16, 0, 0));
+        assert_eq!(desk.take(0, &packet_of(&[(3, 2)])), (16, 0, 1));
+        assert_eq!(desk.manager, fresh);
     }
 
     #[test]

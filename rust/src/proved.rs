@@ -4,7 +4,7 @@ use crate::counts::LossCounts;
 use crate::fields::{Header, RecordHeader};
 use crate::manager::Arrival;
 use crate::name;
-use crate::states::Answer;
+use crate::states::{Answer, Answers};
 use crate::words::Words;
 use std::ops::Range;
 
@@ -255,6 +255,16 @@ extern "C" {
         body: *const u8,
         body_octets: usize,
     ) -> Answer;
+    fn cdr_packet(
+        words: *mut u32,
+        words_number: usize,
+        store: *mut u8,
+        store_octets: usize,
+        output: *mut u8,
+        output_octets: usize,
+        packet: *const u8,
+        packet_octets: usize,
+    ) -> Answers;
 }
 
 /// Reads a file.
@@ -445,6 +455,24 @@ pub fn receive(
             arrival.key.len(),
             arrival.body.as_ptr(),
             arrival.body.len(),
+        )
+    }
+}
+
+/// A packet of records.
+#[inline]
+pub fn take(words: &mut [u32], store: &mut [u8], output: &mut [u8], packet: &[u8]) -> Answers {
+    // SAFETY: as in `receive`.
+    unsafe {
+        cdr_packet(
+            words.as_mut_ptr(),
+            words.len(),
+            store.as_mut_ptr(),
+            store.len(),
+            output.as_mut_ptr(),
+            output.len(),
+            packet.as_ptr(),
+            packet.len(),
         )
     }
 }

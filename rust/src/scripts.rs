@@ -6,10 +6,11 @@
 use crate::counts;
 use crate::draft::release;
 use crate::fields::Release;
-use crate::gate::{Gate, LONGEST_LINE, MOST_OCTETS};
+use crate::gate::{Gate, Received, LONGEST_LINE, LONGEST_WORD, MOST_OCTETS};
 use crate::manager::{
     RouteState, DAY, LONGEST_FILTER, MOST_ROUTES, MOST_SETS, NODE_OCTETS, ROUTE_OCTETS, SET_OCTETS,
 };
+use crate::packet::{self, Delivery, MOST_RECORDS};
 use crate::random::Random;
 use crate::second::{FIXED, LAST_MINUTE, LONGEST_FILE, WIDEST_OFFSET};
 use crate::settings::{self, set_time, Node, Route};
@@ -49,13 +50,14 @@ pub const WRONG_ENDS: usize = WRONG_LINES.len() + 9;
 
 /// Lines that have no meaning wherever they stand.
 #[rustfmt::skip]
-const WRONG_LINES: [&str; 47] = [
+const WRONG_LINES: [&str; 52] = [
     "X", "X 0", "o 0 0", "t 0", "OO 0 0", "S", "M", "W", "O", "C", "T", "R", "-", "*5", "0",
     "O 0", "O 0 0 0", "C 0 0", "C 0 0 0 0", "T 0 0", "Q 0", "W 0 0",
     "R 0 0 - 4 0 0 1 1", "R 0 0 - 4 0 0 1 1 - -",
     " ", " T 0", "T  0", "T 0 ", "T\t0", "T 0\r", "Q ", " # no comment",
     "T a", "T 0x5", "T -1", "T +1", "T 4294967296", "T 18446744073709551616", "T -",
     "O 0 4294967296", "C 0 0 4294967300", "R 0 0 - 4 0 256 1 1 -", "R 0 0 - 4 0 4294967296 1 1 -",
+    "B", "B ", "B 0", "B 0G", "B - -",
     "R 0 0 0 4 0 0 1 1 -", "R 0 0 - 4 0 0 1 1 0G", "R 0 0 - 4 0 0 1 1 *", "R 0 0 - 4 0 0 1 1 *-1",
 ];
 
@@ -167,6 +169,7 @@ impl<'a> Maker<'a> {
             37 => self.add(format_args!("# O 0 0")),
             38 if self.random.once_in(3) => self.open_all(),
             38..=45 if self.is_narrow => self.window(),
+            46..=52 => self.packet(),
             _ => self.receive(),
         }
     }
@@ -271,6 +274,23 @@ impl<'a> Maker<'a> {
     }
 
     fn receive(&mut self) {
+        let (time, record) = self.record();
+        let Received {
+            mark,
+            release,
+            version,
+            extension,
+            format,
+            ts,
+            ..
+        } = record;
+        let (key, body) = (self.word(&record.key), self.body_word(&record.body));
+        let fields = format_args!("{release} {version} {extension} {format} {ts}");
+        self.add(format_args!("R {time} {mark} {key} {fields} {body}"));
+    }
+
+    /// What a RECEIVE carries, by itself or in a packet.
+    fn record(&mut self) -> (u32, Received) {
         let time = self.time();
         let mark = match self.random.below(40) {
             0 => self.random.pick(&[3, 255, 256, 258, u32::MAX]),
@@ -280,11 +300,79 @@ impl<'a> Maker<'a> {
         };
         let route = self.random.below(self.routes.len());
         let key = self.key(route);
-        let key = self.word(&key);
-        let fields = self.fields();
+        let [release, version, extension, format, ts] = self.fields();
         let octets = self.body_octets(route);
         let body = self.body(octets);
-        self.add(format_args!("R {time} {mark} {key} {fields} {body}"));
+        let record = Received {
+            mark,
+            key,
+            release,
+            version,
+            extension: extension as u8,
+            format,
+            ts,
+            body,
+        };
+        (time, record)
+    }
+
+    /// A record with nothing wrong and few octets, of which a packet may have many.
+    fn small_record(&mut self) -> Received {
+        let route = self.random.below(self.routes.len());
+        let Release {
+            release,
+            extension,
+            version,
+        } = self.releases[0];
+        let octets = self.random.below(20);
+        Received {
+            mark: self.random.pick(&[0, 0, 0, 1, 2]),
+            key: self.routes[route].filter.clone(),
+            release: release.into(),
+            version: version.into(),
+            extension,
+            format: self.format,
+            ts: 0,
+            body: self.random.octets(octets),
+        }
+    }
+
+    /// A packet of some records, of none, of 64, or one that is refused whole.
+    fn packet(&mut self) {
+        let records = match self.random.below(20) {
+            0 => 0,
+            1 => MOST_RECORDS,
+            2 => MOST_RECORDS + 1,
+            _ => self.random.between(1, 9),
+        };
+        let mut octets = Vec::new();
+        for _ in 0..records {
+            let (time, mut record) = match records < MOST_RECORDS {
+                true => self.record(),
+                false => (self.clock, self.small_record()),
+            };
+            // Its fields have an octet each, and a script's line has an end.
+            let fields = [&mut record.mark, &mut record.release, &mut record.version];
+            for field in fields
+                .into_iter()
+                .chain([&mut record.format, &mut record.ts])
+            {
+                *field = (*field).min(255);
+            }
+            record.key.truncate(255);
+            let room = (LONGEST_WORD - packet::HEAD - 255).saturating_sub(octets.len());
+            record.body.truncate(room);
+            let arrival = record.arrival();
+            packet::lay(&mut octets, &Delivery { time, arrival });
+        }
+        match self.random.below(16) {
+            0 => octets.truncate(octets.len().saturating_sub(self.random.between(1, 20))),
+            1 => octets.push(self.random.octet()),
+            _ => {}
+        }
+        octets.truncate(LONGEST_WORD - 2);
+        let word = self.word(&octets);
+        self.add(format_args!("B {word}"));
     }
 
     /// So many losses on a route, or unrouted records, that the indicator does not tell their number;
@@ -319,7 +407,7 @@ impl<'a> Maker<'a> {
     }
 
     /// Release, version, extension, format and TS number; at times one of them wrong.
-    fn fields(&mut self) -> String {
+    fn fields(&mut self) -> [u32; 5] {
         let likely = self.random.pick(&[0, 0, 0, 0, 0, 0, 1, 2]);
         let Release {
             release,
@@ -341,7 +429,7 @@ impl<'a> Maker<'a> {
                 _ => self.random.pick(&[32, 255, 256, 287, u32::MAX]),
             };
         }
-        fields.map(|field| field.to_string()).join(" ")
+        fields
     }
 
     /// Small, or near what the limit leaves to a record alone or to one more, or near 65,535.
@@ -364,17 +452,24 @@ impl<'a> Maker<'a> {
     }
 
     /// Octets at random, or zeros if they are many or by chance.
-    fn body(&mut self, octets: usize) -> String {
+    fn body(&mut self, octets: usize) -> Vec<u8> {
         let zeros = match octets {
             0..=300 => self.random.once_in(12),
             301..=5_000 => self.random.once_in(3),
             _ => !self.random.once_in(20),
         };
-        if zeros {
-            return format!("*{octets}");
+        match zeros {
+            true => vec![0; octets],
+            false => self.random.octets(octets),
         }
-        let octets = self.random.octets(octets);
-        self.word(&octets)
+    }
+
+    /// A body as a word of a script: zeros are counted.
+    fn body_word(&mut self, body: &[u8]) -> String {
+        match body.iter().all(|&octet| octet == 0) {
+            true => format!("*{}", body.len()),
+            false => self.word(body),
+        }
     }
 
     /// Octets as a word of a script, in either case.

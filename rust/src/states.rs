@@ -7,6 +7,7 @@
 use crate::counts;
 use crate::fields::Release;
 use crate::manager::{self, LONGEST_FILTER, MOST_ROUTES, MOST_SETS};
+use crate::packet::MOST_RECORDS;
 use crate::second::{EXTENDED, FIXED};
 use crate::settings;
 
@@ -128,6 +129,30 @@ impl From<manager::Answer> for Answer {
                 compared: accepted.compared,
                 octets: accepted.octets,
             },
+        }
+    }
+}
+
+/// The answer to a packet: the refusal that stopped it or 0, how many records were accepted, and the
+/// answers of those that were tried, zeros behind them.
+#[repr(C)]
+#[derive(Clone, Copy, Debug, PartialEq, Eq)]
+pub struct Answers {
+    pub refusal: u8,
+    pub accepted: u8,
+    pub answers: [Answer; MOST_RECORDS],
+}
+
+impl From<&manager::Taken> for Answers {
+    fn from(taken: &manager::Taken) -> Self {
+        let mut answers = [Answer::default(); MOST_RECORDS];
+        for (place, &answer) in answers.iter_mut().zip(&taken.answers) {
+            *place = answer.into();
+        }
+        Self {
+            refusal: taken.refusal,
+            accepted: taken.accepted as u8,
+            answers,
         }
     }
 }

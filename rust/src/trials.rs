@@ -190,7 +190,7 @@ fn count_of(records: &[u8]) -> Option<u32> {
 }
 
 /// What a store or an output holds before the event.
-fn background(random: &mut Random, octets: usize) -> Vec<u8> {
+pub(crate) fn background(random: &mut Random, octets: usize) -> Vec<u8> {
     match octets {
         0..=8_192 => random.octets(octets),
         _ => vec![random.octet(); octets],
@@ -198,7 +198,7 @@ fn background(random: &mut Random, octets: usize) -> Vec<u8> {
 }
 
 /// As long as all regions, longer, or too short.
-fn store_octets(random: &mut Random, state: &State) -> usize {
+pub(crate) fn store_octets(random: &mut Random, state: &State) -> usize {
     let regions = state.regions();
     if regions > LONG_STORE && !(regions < 1 << 24 && random.once_in(20)) {
         return random.below(1_000);
@@ -238,7 +238,7 @@ fn some_route<'a>(random: &mut Random, state: &'a State) -> &'a Route {
 
 /// A time: right ones about the last time, about the minute at which a file is due, and about the next
 /// at which a set minute falls.
-fn time(random: &mut Random, state: &State) -> u32 {
+pub(crate) fn time(random: &mut Random, state: &State) -> u32 {
     let route = some_route(random, state);
     let opened = route.file.opened.get();
     let due = opened.wrapping_add(route.settings.age);
@@ -285,7 +285,7 @@ fn reason(random: &mut Random) -> u32 {
 
 /// A record for one of the routes, with fields like those of the file there and a body that often
 /// is about as long as fits.
-fn received(random: &mut Random, state: &State) -> Received {
+pub(crate) fn received(random: &mut Random, state: &State) -> Received {
     let route = *some_route(random, state);
     let any = release(random, 2);
     let file = route.file;

@@ -17,7 +17,7 @@ fn receive(
     receiving::receive(words, store, output, r.time, r.arrival, key, body)
 }
 
-// What the manager answers to an event: to none with neither a refusal nor an outcome.
+// What the manager answers to an event: to none, or to a packet, with neither a refusal nor an outcome.
 fn answer_of(
     words: &mut [u32],
     event: Event,
@@ -33,11 +33,12 @@ fn answer_of(
         }
         Event::Tick(time) => manager::tick(words, store, output, time),
         Event::Receive(receipt) => receive(words, receipt, octets, store, output),
+        Event::Packet(n) => events::refuse(0, 0),
     }
 }
 
 // So many octets as are asked for, if there are so many.
-fn least(asked: usize, octets: usize) -> usize
+pub fn least(asked: usize, octets: usize) -> usize
     ensures { λ r. ⌜ r ≤ octets ⌝ }
 {
     if asked < octets { asked } else { octets }

@@ -1,5 +1,7 @@
 // The run: each line of the script is carried out on the manager, and its answer printed.
 use crate::happening::lent_answer_of;
+use crate::packets::packet_in;
+use crate::packets::take;
 use gatesteps::Run;
 use gatesteps::Turn;
 use gatesteps::answered;
@@ -8,7 +10,7 @@ use gatesteps::take_turn;
 use textlines::finish;
 use textlines::turns_of;
 
-// Has the turn's event answered by the manager, and the answer printed.
+// Has the turn's event answered by the manager, or its packet taken, and the answer printed.
 fn happen(
     turn: Turn,
     octets: &[u8],
@@ -19,6 +21,10 @@ fn happen(
 ) -> Run {
     let run = turn.run;
     let event = turn.event;
+    let packet = packet_in(event);
+    if packet.is {
+        return take(run, packet.octets, octets, words, store, output, page);
+    }
     let answer = lent_answer_of(words, event, octets, store, run.store, output, run.width);
     answered(run, answer, output, page)
 }

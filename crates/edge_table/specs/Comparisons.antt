@@ -19,12 +19,12 @@ use Rattle.events.specs.declared.Answer.{Answer}
 use Rattle.events.specs.declared.Arrival.{Arrival}
 use Rattle.events.specs.Events.{refusalOf, answered, openOf, tickOf}
 use Rattle.events.specs.Receive.{receiveOf}
-use Rattle.events.specs.Lent.{Left, openOn, tickOn, receiveOn}
+use Rattle.events.specs.Lent.{openOn, tickOn, receiveOn}
 use Rattle.words.specs.Words.{routeIn, managerIn, wordsOf}
 use Rattle.ledger.specs.Event.{Event, OPEN, TICK, RECEIVE}
 use Rattle.ledger.specs.Ledger.{comparedOn, answerOf, entryOf}
-use Rattle.ledger.specs.Run.{runOf, Booked, booksOf, ledgerFrom}
-use Rattle.edge_table.specs.Manager.{lent}
+use Rattle.ledger.specs.Run.{runOf, saidIn, booksOf, bookedIn, ledgerFrom}
+use Rattle.edge_table.specs.Manager.{lent, answersIn}
 
 -- One filter and one key, in both definitions.
 abbrev filtered : List ℕ → RouteSettings
@@ -68,18 +68,10 @@ settings =
 abbrev arrival : ℕ → Arrival
 arrival mark = record { mark = mark; release = 4; version = 3; extension = 0; format = 1; ts = 15 }
 
-abbrev answersIn : List Left → List Answer
-answersIn [] = []
-answersIn (a ∷ rest) = a .answer ∷ answersIn rest
-
-abbrev booksIn : List Booked → List Answer
-booksIn [] = []
-booksIn (b ∷ bs) = b .answer ∷ booksIn bs
-
 abbrev Answered : List Event → List Answer → Type 0
 Answered events told =
-    (answersIn (runOf (loadedOf settings .words) (replicate 640 0xDD) (lent 0 events)) ≡ told)
-    × (booksIn (booksOf (ledgerFrom settings) 640 (lent 0 events)) ≡ told)
+    (answersIn (saidIn (runOf (loadedOf settings .words) (replicate 640 0xDD) (lent 0 events))) ≡ told)
+    × (answersIn (bookedIn (booksOf (ledgerFrom settings) 640 (lent 0 events))) ≡ told)
 
 abbrev key : List ℕ
 key = 0x31 ∷ 0x32 ∷ 0x33 ∷ []

@@ -6,3 +6,4 @@ pub mod LossCounts
 pub mod Extensions
 pub mod SetTimes
 pub mod Comparisons
+pub mod Packets

@@ -7,9 +7,8 @@ use lib.ListN.{replicate}
 use Rattle.settings.specs.Settings.{loadedOf}
 use Rattle.events.specs.declared.Answer.{Answer}
 use Rattle.events.specs.declared.Arrival.{Arrival}
-use Rattle.events.specs.Lent.{Left}
-use Rattle.ledger.specs.Event.{Event, RECEIVE, Lent}
-use Rattle.ledger.specs.Run.{runOf, Booked, booksOf, joined, ledgerFrom}
+use Rattle.ledger.specs.Event.{Event, RECEIVE, EVENT, Lent, Said, ANSWER, ANSWERS}
+use Rattle.ledger.specs.Run.{Done, runOf, saidIn, Booked, booksOf, bookedIn, joined, ledgerFrom}
 
 -- node: address ::ffff:192.0.2.1, offset 0; route: f 0, size limit 128, no other limits, flag 0, release 4, version 3, first
 -- sequence number 7
@@ -47,32 +46,30 @@ receive a body = RECEIVE 0 a [] (replicate body 0xAB)
 -- the events, each lent an output of so many octets 0xEE
 abbrev pub lent : ℕ → List Event → List Lent
 lent n [] = []
-lent n (e ∷ es) = record { event = e; output = replicate n 0xEE } ∷ lent n es
+lent n (e ∷ es) = record { call = EVENT e; output = replicate n 0xEE } ∷ lent n es
+
+-- the answers in what is said
+abbrev pub answersIn : List Said → List Answer
+answersIn [] = []
+answersIn (ANSWER a ∷ ss) = a ∷ answersIn ss
+answersIn (ANSWERS refusal accepted answers ∷ ss) = answers ++ answersIn ss
 
 -- what the events leave, and what the ledger says of them
-abbrev pub leaves : ℕ → List Event → List Left
+abbrev leaves : ℕ → List Event → List Done
 leaves n es = runOf fresh store (lent n es)
 
-abbrev answersIn : List Left → List Answer
-answersIn [] = []
-answersIn (a ∷ rest) = a .answer ∷ answersIn rest
-
 abbrev pub answers : List Event → List Answer
-answers es = answersIn (leaves 128 es)
+answers es = answersIn (saidIn (leaves 128 es))
 
-abbrev outputsIn : List Left → List (List ℕ)
+abbrev outputsIn : List Done → List (List ℕ)
 outputsIn [] = []
-outputsIn (a ∷ rest) = a .output ∷ outputsIn rest
+outputsIn (x ∷ done) = x .output ∷ outputsIn done
 
 abbrev pub outputs : ℕ → List Event → List (List ℕ)
 outputs n es = outputsIn (leaves n es)
 
-abbrev booksIn : List Booked → List Answer
-booksIn [] = []
-booksIn (b ∷ bs) = b .answer ∷ booksIn bs
-
 abbrev pub booked : List Event → List Answer
-booked es = booksIn (booksOf (ledgerFrom settings) 128 (lent 128 es))
+booked es = answersIn (bookedIn (booksOf (ledgerFrom settings) 128 (lent 128 es)))
 
 abbrev filesIn : List Booked → List (List ℕ)
 filesIn [] = []

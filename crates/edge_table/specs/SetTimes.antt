@@ -18,11 +18,11 @@ use Rattle.settings.specs.Settings.{routesIn, wrongShape, beyondRange, equalFil
 use Rattle.settings.specs.Settings.{verdict as settingsVerdict}
 use Rattle.filing.specs.Closing.{closedFile}
 use Rattle.events.specs.Events.{openOf, tickOf}
-use Rattle.events.specs.Lent.{Left, openOn, tickOn}
+use Rattle.events.specs.Lent.{openOn, tickOn}
 use Rattle.words.specs.Words.{routeIn, managerIn, wordsOf}
-use Rattle.ledger.specs.Event.{Event, OPEN, TICK}
+use Rattle.ledger.specs.Event.{Event, OPEN, TICK, Said, ANSWER, ANSWERS}
 use Rattle.ledger.specs.Ledger.{answerOf, entryOf}
-use Rattle.ledger.specs.Run.{runOf, Booked, booksOf, joined, ledgerFrom}
+use Rattle.ledger.specs.Run.{Done, runOf, Booked, booksOf, joined, ledgerFrom}
 use Rattle.edge_table.specs.Manager.{lent}
 
 -- A node at an offset, and routes that have a filter of one octet, an open-time limit, and a first sequence number.
@@ -39,13 +39,17 @@ at number minute = 3 ∷ number ∷ be 2 minute
 abbrev saidOf : ℕ → List ℕ → List ℕ
 saidOf files octets = files ∷ getD octets 25 0xEE ∷ getD octets 26 0xEE ∷ []
 
-abbrev saidIn : List Left → List (List ℕ)
-saidIn [] = []
-saidIn (a ∷ rest) = saidOf (a .answer .files) (a .output) ∷ saidIn rest
+abbrev filesIn : Said → ℕ
+filesIn (ANSWER a) = a .files
+filesIn (ANSWERS refusal accepted answers) = 0
+
+abbrev doneIn : List Done → List (List ℕ)
+doneIn [] = []
+doneIn (x ∷ done) = saidOf (filesIn (x .said)) (x .output) ∷ doneIn done
 
 abbrev bookedIn : List Booked → List (List ℕ)
 bookedIn [] = []
-bookedIn (b ∷ bs) = saidOf (b .answer .files) (joined (b .entry .closings)) ∷ bookedIn bs
+bookedIn (b ∷ bs) = saidOf (filesIn (b .said)) (joined (b .entry .closings)) ∷ bookedIn bs
 
 abbrev quiet : List ℕ
 quiet = 0 ∷ 0xEE ∷ 0xEE ∷ []
@@ -56,7 +60,7 @@ closed sequence reason = 1 ∷ sequence ∷ reason ∷ []
 -- both sides say so
 abbrev Says : List ℕ → List Event → List (List ℕ) → Type 0
 Says settings events told =
-    (saidIn (runOf (loadedOf settings .words) (replicate 256 0xDD) (lent 128 events)) ≡ told)
+    (doneIn (runOf (loadedOf settings .words) (replicate 256 0xDD) (lent 128 events)) ≡ told)
     × (bookedIn (booksOf (ledgerFrom settings) 256 (lent 128 events)) ≡ told)
 
 -- one route, without an open-time limit

@@ -8,3 +8,5 @@ pub mod Cases
 pub mod Held
 pub mod Unchanged
 pub mod Work
+pub mod Right
+pub mod Stays

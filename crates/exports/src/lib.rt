@@ -1,4 +1,5 @@
 // The public calls for programs in other languages, under C's calling convention: tests and benchmarks link them.
+use batch::Answers;
 use cdrfile::Header;
 use counts::Counts;
 use events::Answer;
@@ -19,6 +20,8 @@ ghost use Rattle.timestamp.specs.Stamp.{stampOf};
 ghost use Rattle.writer.specs.Writer.{after, writeOf};
 ghost use Rattle.settings.specs.Settings.{loadedOf};
 ghost use Rattle.events.specs.Lent.{left, openOn, closeOn, tickOn, receiveOn};
+ghost use Rattle.packets.specs.Fold.{packetOn};
+ghost use Rattle.batch.specs.Told.{told, toldOf};
 ghost use Rattle.filename.specs.Reading.{readOf as nameOf};
 ghost use Rattle.filename.specs.Writing.{after as spelled};
 ghost use Rattle.filename.specs.Writing.{writeOf as nameWritten};
@@ -168,6 +171,18 @@ pub extern "C" fn cdr_receive(
     ensures { λ r. ⌜ left r (now (words .exit)) (now (store .exit)) (now (output .exit)) ≡ receiveOn (now (words .entry)) (now (store .entry)) (now (output .entry)) time a (now (key .entry)) (now (body .entry)) ⌝ }
 {
     receiving::receive(words, store, output, time, a, key, body)
+}
+
+#[no_mangle]
+pub extern "C" fn cdr_packet(
+    words: &mut [u32],
+    store: &mut [u8],
+    output: &mut [u8],
+    packet: &[u8],
+) -> Answers
+    ensures { λ r. ⌜ told r (now (words .exit)) (now (store .exit)) (now (output .exit)) ≡ toldOf (packetOn (now (words .entry)) (now (store .entry)) (now (output .entry)) (now (packet .entry))) ⌝ }
+{
+    batch::take(words, store, output, packet)
 }
 
 #[no_mangle]

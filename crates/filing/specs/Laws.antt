@@ -1,17 +1,20 @@
--- Laws of appending and closing (document 01, File header, The events): a header and a body copied one behind the other leave
+-- Laws of appending and closing (document 01, File header, The events): a header and a body written one behind the other leave
 -- the record; the fixed octets and the node's leave the address; and a file laid out over the output from a place on is the
 -- closed file there. Assumes nothing.
 use mathlib.Core.Path.{_≡_, refl, sym, ap, _∙_}
+use mathlib.Core.Bool.{Bool, true, false, cond}
 use mathlib.Core.List.{List, _++_, append-nil}
 use Prim.Native.Nat.{ℕ, _+_, _-_, _≤_}
 use native.Mathlib.Omega.{arith}
 use native.Mathlib.Nat.{add-zero}
+use lib.Dec.{eqb}
 use lib.ListN.{length, take, drop, length-append, length-drop, drop-of-length-le}
 use lib.Seq.{length-take-le}
 use borrow.Rule.Slice.PartMut.{putMid}
 use Rattle.octets.specs.Splice.{splice, splice-then, splice-part}
 use Rattle.timestamp.specs.LocalTime.{timestamp-narrow}
 use Rattle.record.specs.declared.RecordHeader.{RecordHeader}
+use Rattle.record.specs.declared.Release.{Release}
 use Rattle.record.specs.Release.{headerLength}
 use Rattle.record.specs.Record.{recordOctets}
 use Rattle.record.specs.HeaderOctets.{fiveOctets, header-part, header-body}
@@ -26,7 +29,15 @@ use Rattle.filing.specs.Closing.{filler, headerFor, countsOf, closedSize
 use Rattle.filing.specs.Closed.{closedFrom, closed-from-length}
 use Rattle.filing.specs.Needs.{Closable}
 
--- Two copies, of the header's octets and of the body behind them, leave the record.
+-- a record header has four octets at least
+pub header-least : (r : Release) → 4 ≤ headerLength r
+header-least r = by-release (eqb (r .release) 7)
+  where
+    by-release : (b : Bool) → 4 ≤ cond b 5 4
+    by-release true = omega arith
+    by-release false = omega arith
+
+-- The header's octets, and the body behind them, leave the record.
 module _ (h : RecordHeader) (body : List ℕ) {n : ℕ} {five : List ℕ} (en : n ≡ headerLength (h .release)) (ef : five ≡ fiveOctets h (length body)) where
   -- the lent part of the five octets is the header
   pub lent-header : take n five ≡ take (headerLength (h .release)) (fiveOctets h (length body))

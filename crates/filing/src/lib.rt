@@ -5,12 +5,25 @@ use state::Node;
 use state::Route;
 ghost use mathlib.Core.Path.{_≡_};
 ghost use mathlib.Core.List.{_++_};
-ghost use Prim.Native.Nat.{_+_};
+ghost use Prim.Native.Nat.{_+_, _≤_};
+ghost use lib.ListN.{length, take};
 ghost use Rattle.octets.specs.Splice.{splice};
 ghost use Rattle.record.specs.Record.{recordOctets};
 ghost use Rattle.filing.specs.Closing.{filler, headerFor, lostOctet};
 ghost use Rattle.filing.specs.Closed.{closedFrom};
 ghost use Rattle.filing.specs.Needs.{Appendable, Fitting, Headed, Closable};
+
+// Writes the first n octets of a header's five, which are four or all of them: copies of a known length, which are compiled to stores.
+fn put_header(part: &mut [u8], used: usize, header: [u8; 5], n: usize)
+    requires { ⌜ (used + n ≤ length (now part)) × (4 ≤ n) × (n ≤ 5) ⌝ }
+    ensures { λ _. ⌜ now (part .exit) ≡ splice (now (part .entry)) used (take n header) ⌝ }
+{
+    if n == 5 {
+        octets::copy(part, used, &header);
+    } else {
+        octets::copy(part, used, &header[..4]);
+    }
+}
 
 // Writes a record over the part of the store that is lent, from `used` on.
 fn append_to(part: &mut [u8], used: usize, h: RecordHeader, body: &[u8])
@@ -19,7 +32,7 @@ fn append_to(part: &mut [u8], used: usize, h: RecordHeader, body: &[u8])
 {
     let header = record::header_octets(h, body.len());
     let n = record::header_length_of(h.release);
-    octets::copy(part, used, &header[..n]);
+    put_header(part, used, header, n);
     octets::copy(part, used + n, body);
 }
 

@@ -1,4 +1,4 @@
-// The lines that the gate prints: an answer, the files that were closed, the state.
+// The lines that the gate prints: an answer, what came of a packet, the files that were closed, the state.
 ghost use mathlib.Core.Path.{_≡_};
 ghost use Prim.Native.Nat.{_+_, _≤_, _<_};
 ghost use lib.ListN.{length};
@@ -57,6 +57,12 @@ pub fn print_answer(page: &mut [u8], p: Printer, answer: Answer) -> Printer {
     let b = put_fields(page, a, answer.route as u64, answer.files as u64);
     let c = put_fields(page, b, answer.octets as u64, answer.compared as u64);
     put_end(page, c)
+}
+
+// The line of a packet: the refusal that stopped it or 0, and how many records were accepted.
+pub fn print_packet(page: &mut [u8], p: Printer, refusal: u8, accepted: u8) -> Printer {
+    let a = put_start(page, p, b'B', refusal as u64, accepted as u64);
+    put_end(page, a)
 }
 
 // The file that stands at `at`: its length is its first four octets.

@@ -12,13 +12,14 @@ pub struct Receipt {
     pub body: usize,
 }
 
-// An event with its time, and then its route and its reason if it has them; or nothing, where no event is due.
+// An event with its time, and then its route and its reason if it has them; a packet of so many octets; or nothing, where neither is due.
 pub enum Event {
     Nothing,
     Open(u32, u32),
     Close(u32, u32, u32),
     Tick(u32),
     Receive(Receipt),
+    Packet(usize),
 }
 
 // A line's meaning: nothing, settings of so many octets, a store or outputs of so many octets, an event, or the state to be
@@ -122,6 +123,15 @@ fn receive_of(line: &[u8], space: &mut [u8]) -> Command {
     Command::Happening(Event::Receive(receipt))
 }
 
+fn packet_of(line: &[u8], space: &mut [u8]) -> Command {
+    let o = octets_at(line, 1, space);
+    if o.next == line.len() {
+        Command::Happening(Event::Packet(o.count))
+    } else {
+        Command::Wrong
+    }
+}
+
 fn state_of(line: &[u8]) -> Command {
     if line.len() == 1 {
         Command::State
@@ -144,6 +154,7 @@ pub fn command_of(line: &[u8], space: &mut [u8]) -> Command {
         b'C' => close_of(line),
         b'T' => tick_of(line),
         b'R' => receive_of(line, space),
+        b'B' => packet_of(line, space),
         b'Q' => state_of(line),
         _ => Command::Wrong,
     }

@@ -1,7 +1,5 @@
--- What the ledger alone does over any list of events, with no manager: settings, address and bias never change; each event
--- adds to a line's counts, closed files and records exactly what Demand3 counts of it in the list by the rules of routing and
--- loss; hence so does a list; and on every line of a fresh ledger received = closed + open + lost, and the loss counts in its
--- closed files and the pending ones are the lost and the unrouted records. Assumes nothing.
+-- What the ledger alone does at an event, with no manager: settings, address and bias never change, and it adds to a line's counts,
+-- closed files and records exactly what Demand3 counts of it by the rules of routing and loss. Lists: Lists.antt. Assumes nothing.
 use mathlib.Core.Path.{_≡_, refl, sym, ap, _∙_, subst, transport}
 use mathlib.Core.Bool.{Bool, true, false, cond, not, _&&_, _||_, true≢false, false≢true}
 use mathlib.Core.List.{List, [], _∷_, _++_, map, append-assoc, append-nil}
@@ -20,15 +18,12 @@ use Rattle.counts.specs.Laws.{counts-there, counts-back}
 use Rattle.state.specs.declared.RouteSettings.{RouteSettings}
 use Rattle.state.specs.declared.Routed.{Routed}
 use Rattle.state.specs.Routing.{nobody, better, fits}
-use Rattle.settings.specs.Settings.{routesIn, routeStart}
 use Rattle.events.specs.declared.Answer.{Answer}
 use Rattle.events.specs.declared.Arrival.{Arrival}
-use Rattle.events.specs.Lent.{Left}
 use Rattle.events.specs.Receive.{recordOf}
-use Rattle.ledger.specs.Event.{Event, OPEN, CLOSE, TICK, RECEIVE, Lent}
+use Rattle.ledger.specs.Event.{Event, OPEN, CLOSE, TICK, RECEIVE}
 use Rattle.ledger.specs.Ledger.{OpenFile, Current, none, some, Line, Ledger, noLine, lineAt, fileFrom, openLine, closeLine, withCurrent, receivedLine, lostLine, notedLine, appendTo, withLine, withTime, Closing, Entry, recordsIn, recordsOf, isOpen, opens, closeEntry, minutesAt, Fate, goesOn, endsWith, fateOf, closeBy, closeDue, tickTo, ticks, amongLines, routedTo, lostBy, differsFrom, exceedsWith, fullWith, Ready, openFor, turnOver, readyBy, appendEntry, places, loses, notedLines, unroutes, effective, closingReasons, isOneOf, fitsMark, anyFull, countersFull, refusal, neededBy, regions, answerBy, entryBy, answerOf, entryOf}
-use Rattle.ledger.specs.Run.{Booked, booked, booksOf, ledgerAfter, lineFrom, linesFrom, ledgerFrom}
-use Rattle.ledger.specs.Demand3.{receivedOn, lostRule, unroutedBy, one, received, lost, unrouted, placedIf, placed, onRoute, closedOn, AllBelow, Answered}
+use Rattle.ledger.specs.Demand3.{receivedOn, lostRule, unroutedBy, one, placedIf, onRoute, AllBelow}
 
 -- the records of some files, and how many they are
 abbrev pub flat : List File → List Record
@@ -211,7 +206,7 @@ module _ (x : Line) where
         counted = tt;
       }
 
--- A. Settings, address and bias are the same.
+-- Settings, address and bias are the same.
 abbrev pub settingsIn : Line → RouteSettings
 settingsIn x = x .settings
 
@@ -305,7 +300,7 @@ below-more : (n m : ℕ) (cs : List Closing) → n ≤ m → AllBelow n cs → A
 below-more n m [] h p = tt
 below-more n m (c ∷ cs) h p = (omega (arith, p .0), below-more n m cs h (p .1))
 
-below-append : (n : ℕ) (cs ds : List Closing) → AllBelow n cs → AllBelow n ds → AllBelow n (cs ++ ds)
+pub below-append : (n : ℕ) (cs ds : List Closing) → AllBelow n cs → AllBelow n ds → AllBelow n (cs ++ ds)
 below-append n [] ds p q = q
 below-append n (c ∷ cs) ds p q = (p .0, below-append n cs ds (p .1) q)
 
@@ -321,7 +316,7 @@ on-other : (k i : ℕ) → (k ≡ i → ⊥) → (fs : List File) → onRoute i 
 on-other k i h [] = refl
 on-other k i h (f ∷ fs) = λ j. cond (ne-eqb k i h j) (f ∷ on-other k i h fs j) (on-other k i h fs j)
 
-on-append : (i : ℕ) (cs ds : List Closing) → onRoute i (cs ++ ds) ≡ onRoute i cs ++ onRoute i ds
+pub on-append : (i : ℕ) (cs ds : List Closing) → onRoute i (cs ++ ds) ≡ onRoute i cs ++ onRoute i ds
 on-append i [] ds = refl
 on-append i (c ∷ cs) ds = ap (λ (fs : List File). cond (eqb (c .route) i) (c .file ∷ fs) fs) (on-append i cs ds) ∙ go (eqb (c .route) i)
   where
@@ -608,8 +603,12 @@ pub none-full : (xs : List Line) → ((i : ℕ) → i < length xs → getD xs i 
 none-full [] h = refl
 none-full (x ∷ xs) h = λ j. ne-eqb (x .unrouted) 4294967295 (h 0 (omega arith)) j || none-full xs (λ i low. h (suc i) (omega arith)) j
 
--- C. One event: what it adds, of what the list itself says.
-pub record Moved (l : Ledger) (e : Event) (b : Booked) : Type 0 where
+-- One event: what it adds, of what the list itself says.
+pub record Booking : Type 0 where
+  pub answer : Answer
+  pub entry : Entry
+
+pub record Moved (l : Ledger) (e : Event) (b : Booking) : Type 0 where
   pub same : Same l (b .entry .ledger)
   pub unrouted : b .entry .ledger .unrouted ≡ l .unrouted + one (unroutedBy l e (b .answer))
   pub below : AllBelow (length (l .lines)) (b .entry .closings)
@@ -806,9 +805,6 @@ module _ (l : Ledger) where
   unfolding answerOf entryOf
   entry-moves n k e = moves-by n k e (refusal l n k e) refl
 
-  pub booked-moves : (n : ℕ) (e : Lent) → Moved l (e .event) (booked l n e)
-  booked-moves n e = entry-moves n (length (e .output)) (e .event)
-
 -- A refused event changes nothing. The answer's refusal is 0 exactly where none applies.
 module _ (l : Ledger) (n k : ℕ) (e : Event) where
   pub answer-refusal : answerOf l n k e .refusal ≡ refusal l n k e
@@ -822,302 +818,3 @@ module _ (l : Ledger) (n k : ℕ) (e : Event) where
   pub refused-entry : (r : ℕ) → refusal l n k e ≡ suc r → entryOf l n k e ≡ record { ledger = l; closings = [] }
   unfolding entryOf
   refused-entry r z = ap (λ (m : ℕ). entryBy m l e) z
-
-  -- A, of one event
-  pub entry-same : Same l (entryOf l n k e .ledger)
-  entry-same = entry-moves l n k e .same
-
-  pub entry-address : entryOf l n k e .ledger .address ≡ l .address
-  entry-address = entry-same .address
-
-  pub entry-bias : entryOf l n k e .ledger .bias ≡ l .bias
-  entry-bias = entry-same .bias
-
-  pub entry-length : length (entryOf l n k e .ledger .lines) ≡ length (l .lines)
-  entry-length = same-length entry-same
-
-  pub entry-settings : (i : ℕ) → lineAt (entryOf l n k e .ledger) i .settings ≡ lineAt l i .settings
-  entry-settings = same-settings entry-same
-
-  pub entry-routed : (a : Arrival) (key : List ℕ) → routedTo (entryOf l n k e .ledger) a key ≡ routedTo l a key
-  entry-routed = same-routed entry-same
-
-  pub entry-lostBy : (i : ℕ) (a : Arrival) (body : ℕ) → lostBy (lineAt (entryOf l n k e .ledger) i .settings) a body ≡ lostBy (lineAt l i .settings) a body
-  entry-lostBy = same-lostBy entry-same
-
--- C, one by one
-module _ (l : Ledger) (n : ℕ) (e : Lent) where
-  pub booked-unrouted : booked l n e .entry .ledger .unrouted ≡ l .unrouted + one (unroutedBy l (e .event) (booked l n e .answer))
-  booked-unrouted = booked-moves l n e .unrouted
-
-  module _ (i : ℕ) (low : i < length (l .lines)) where
-    pub booked-received : lineAt (booked l n e .entry .ledger) i .received ≡ lineAt l i .received + one (receivedOn l i (e .event) (booked l n e .answer))
-    booked-received = booked-moves l n e .line i low .received
-
-    pub booked-lost : lineAt (booked l n e .entry .ledger) i .lost
-        ≡ lineAt l i .lost + one (receivedOn l i (e .event) (booked l n e .answer) && lostRule l i (e .event))
-    booked-lost = booked-moves l n e .line i low .lost
-
-    pub booked-closed : lineAt (booked l n e .entry .ledger) i .closed ≡ lineAt l i .closed ++ onRoute i (booked l n e .entry .closings)
-    booked-closed = booked-moves l n e .line i low .closed
-
-    pub booked-records : flat (lineAt (booked l n e .entry .ledger) i .closed) ++ recordsOf (lineAt (booked l n e .entry .ledger) i)
-        ≡ (flat (lineAt l i .closed) ++ recordsOf (lineAt l i))
-        ++ placedIf (receivedOn l i (e .event) (booked l n e .answer) && not (lostRule l i (e .event))) (e .event)
-    booked-records = booked-moves l n e .line i low .records
-
--- B. The counts of Demand3, over what the ledger booked.
-abbrev pub receivedB : Ledger → ℕ → List Lent → List Booked → ℕ
-receivedB l i [] done = 0
-receivedB l i (e ∷ es) [] = 0
-receivedB l i (e ∷ es) (b ∷ done) = one (receivedOn l i (e .event) (b .answer)) + receivedB l i es done
-
-abbrev pub lostB : Ledger → ℕ → List Lent → List Booked → ℕ
-lostB l i [] done = 0
-lostB l i (e ∷ es) [] = 0
-lostB l i (e ∷ es) (b ∷ done) = one (receivedOn l i (e .event) (b .answer) && lostRule l i (e .event)) + lostB l i es done
-
-abbrev pub unroutedB : Ledger → List Lent → List Booked → ℕ
-unroutedB l [] done = 0
-unroutedB l (e ∷ es) [] = 0
-unroutedB l (e ∷ es) (b ∷ done) = one (unroutedBy l (e .event) (b .answer)) + unroutedB l es done
-
-abbrev pub placedB : Ledger → ℕ → List Lent → List Booked → List Record
-placedB l i [] done = []
-placedB l i (e ∷ es) [] = []
-placedB l i (e ∷ es) (b ∷ done) =
-    placedIf (receivedOn l i (e .event) (b .answer) && not (lostRule l i (e .event))) (e .event) ++ placedB l i es done
-
--- they are those of the answers, where each answer is the ledger's
-pub record Counts (l : Ledger) (es : List Lent) (done : List Left) (bs : List Booked) : Type 0 where
-  pub received : (i : ℕ) → received l i es done ≡ receivedB l i es bs
-  pub lost : (i : ℕ) → lost l i es done ≡ lostB l i es bs
-  pub unrouted : unrouted l es done ≡ unroutedB l es bs
-  pub placed : (i : ℕ) → placed l i es done ≡ placedB l i es bs
-
-counts-more : (l : Ledger) (e : Lent) (es : List Lent) (a : Left) (done : List Left) (b : Booked) (bs : List Booked)
-    → a .answer ≡ b .answer → Counts l es done bs → Counts l (e ∷ es) (a ∷ done) (b ∷ bs)
-counts-more l e es a done b bs q h =
-    record {
-      received = λ i j. one (receivedOn l i (e .event) (q j)) + h .received i j;
-      lost = λ i j. one (receivedOn l i (e .event) (q j) && lostRule l i (e .event)) + h .lost i j;
-      unrouted = λ j. one (unroutedBy l (e .event) (q j)) + h .unrouted j;
-      placed = λ i j. placedIf (receivedOn l i (e .event) (q j) && not (lostRule l i (e .event))) (e .event) ++ h .placed i j;
-    }
-
-pub counts : (l : Ledger) (es : List Lent) (done : List Left) (bs : List Booked) → Answered es done bs → Counts l es done bs
-counts l [] [] [] h = record { received = λ i. refl; lost = λ i. refl; unrouted = refl; placed = λ i. refl }
-counts l [] [] (b ∷ bs) h = absurd h
-counts l [] (a ∷ done) bs h = absurd h
-counts l (e ∷ es) [] bs h = absurd h
-counts l (e ∷ es) (a ∷ done) [] h = absurd h
-counts l (e ∷ es) (a ∷ done) (b ∷ bs) h = counts-more l e es a done b bs (h .0 .0) (counts l es done bs (h .1))
-
-module _ (l : Ledger) (es : List Lent) (done : List Left) (bs : List Booked) (h : Answered es done bs) where
-  pub received-booked : (i : ℕ) → received l i es done ≡ receivedB l i es bs
-  received-booked = counts l es done bs h .received
-
-  pub lost-booked : (i : ℕ) → lost l i es done ≡ lostB l i es bs
-  lost-booked = counts l es done bs h .lost
-
-  pub unrouted-booked : unrouted l es done ≡ unroutedB l es bs
-  unrouted-booked = counts l es done bs h .unrouted
-
-  pub placed-booked : (i : ℕ) → placed l i es done ≡ placedB l i es bs
-  placed-booked = counts l es done bs h .placed
-
--- the counts depend on the settings alone
-module _ {l m : Ledger} (h : Same l m) where
-  pub same-receivedB : (i : ℕ) (es : List Lent) (bs : List Booked) → receivedB m i es bs ≡ receivedB l i es bs
-  same-receivedB i [] bs = refl
-  same-receivedB i (e ∷ es) [] = refl
-  same-receivedB i (e ∷ es) (b ∷ bs) = λ j. one (same-received h i (e .event) (b .answer) j) + same-receivedB i es bs j
-
-  pub same-lostB : (i : ℕ) (es : List Lent) (bs : List Booked) → lostB m i es bs ≡ lostB l i es bs
-  same-lostB i [] bs = refl
-  same-lostB i (e ∷ es) [] = refl
-  same-lostB i (e ∷ es) (b ∷ bs) =
-      λ j. one (same-received h i (e .event) (b .answer) j && same-lost h i (e .event) j) + same-lostB i es bs j
-
-  pub same-unroutedB : (es : List Lent) (bs : List Booked) → unroutedB m es bs ≡ unroutedB l es bs
-  same-unroutedB [] bs = refl
-  same-unroutedB (e ∷ es) [] = refl
-  same-unroutedB (e ∷ es) (b ∷ bs) = λ j. one (same-unrouted h (e .event) (b .answer) j) + same-unroutedB es bs j
-
-  pub same-placedB : (i : ℕ) (es : List Lent) (bs : List Booked) → placedB m i es bs ≡ placedB l i es bs
-  same-placedB i [] bs = refl
-  same-placedB i (e ∷ es) [] = refl
-  same-placedB i (e ∷ es) (b ∷ bs) =
-      λ j. placedIf (same-received h i (e .event) (b .answer) j && not (same-lost h i (e .event) j)) (e .event) ++ same-placedB i es bs j
-
--- D. A list of events adds what the list itself says.
-pub record Ran (l m : Ledger) (es : List Lent) (bs : List Booked) : Type 0 where
-  pub same : Same l m
-  pub unrouted : m .unrouted ≡ l .unrouted + unroutedB l es bs
-  pub line : (i : ℕ) → i < length (l .lines)
-      → Step (lineAt l i) (lineAt m i) (receivedB l i es bs) (lostB l i es bs) (unroutedB l es bs) (closedOn i bs) (placedB l i es bs)
-
-ran-more : (l m : Ledger) (e : Lent) (b : Booked) (es : List Lent) (bs : List Booked) → Moved l (e .event) b → Ran (b .entry .ledger) m es bs
-    → Ran l m (e ∷ es) (b ∷ bs)
-ran-more l m e b es bs p q =
-    record {
-      same = same-behind (p .same) (q .same);
-      unrouted = omega (arith, p .unrouted, q .unrouted, same-unroutedB (p .same) es bs);
-      line = λ i low.
-          behind (p .line i low)
-          (transport (λ j. Step (lineAt (b .entry .ledger) i) (lineAt m i) (same-receivedB (p .same) i es bs j) (same-lostB (p .same) i es bs j) (same-unroutedB (p .same) es bs j) (closedOn i bs) (same-placedB (p .same) i es bs j))
-          (q .line i (omega (arith, same-length (p .same)))));
-    }
-
-pub ran : (l : Ledger) (n : ℕ) (es : List Lent) → Ran l (ledgerAfter l n es) es (booksOf l n es)
-ran l n [] = record { same = same-self l; unrouted = omega arith; line = λ i low. stays (lineAt l i) }
-ran l n (e ∷ es) =
-    ran-more l (ledgerAfter l n (e ∷ es)) e (booked l n e) es (booksOf (booked l n e .entry .ledger) n es) (booked-moves l n e)
-    (ran (booked l n e .entry .ledger) n es)
-
-module _ (l : Ledger) (n : ℕ) (es : List Lent) where
-  pub after-same : Same l (ledgerAfter l n es)
-  after-same = ran l n es .same
-
-  pub after-unrouted : ledgerAfter l n es .unrouted ≡ l .unrouted + unroutedB l es (booksOf l n es)
-  after-unrouted = ran l n es .unrouted
-
-  module _ (i : ℕ) (low : i < length (l .lines)) where
-    pub after-received : lineAt (ledgerAfter l n es) i .received ≡ lineAt l i .received + receivedB l i es (booksOf l n es)
-    after-received = ran l n es .line i low .received
-
-    pub after-lost : lineAt (ledgerAfter l n es) i .lost ≡ lineAt l i .lost + lostB l i es (booksOf l n es)
-    after-lost = ran l n es .line i low .lost
-
-    pub after-closed : lineAt (ledgerAfter l n es) i .closed ≡ lineAt l i .closed ++ closedOn i (booksOf l n es)
-    after-closed = ran l n es .line i low .closed
-
-    pub after-records : flat (lineAt (ledgerAfter l n es) i .closed) ++ recordsOf (lineAt (ledgerAfter l n es) i)
-        ≡ (flat (lineAt l i .closed) ++ recordsOf (lineAt l i)) ++ placedB l i es (booksOf l n es)
-    after-records = ran l n es .line i low .records
-
-    pub after-counted : Counted (closedOn i (booksOf l n es))
-    after-counted = ran l n es .line i low .counted
-
--- E. The balance of a line.
-abbrev pub Balanced : Line → Type 0
-Balanced x = x .received ≡ held (x .closed) + length (recordsOf x) + x .lost
-
-pub step-balanced : {x y : Line} {r s u : ℕ} {cs : List File} {ps : List Record} → Step x y r s u cs ps → r ≡ length ps + s → Balanced x → Balanced y
-step-balanced {x} {y} {r} {s} {u} {cs} {ps} h w b =
-    let more = ap length (h .records) in
-    omega (arith, h .received, h .lost, more, length-append (flat (y .closed)) (recordsOf y), length-append (flat (x .closed) ++ recordsOf x) ps, length-append (flat (x .closed)) (recordsOf x), held-flat (x .closed), held-flat (y .closed))
-
--- what is received is placed or lost
-one-kind : (b c : Bool) (time : ℕ) (a : Arrival) (key body : List ℕ)
-    → one b ≡ length (placedIf (b && not c) (RECEIVE time a key body)) + one (b && c)
-one-kind true true time a key body = refl
-one-kind true false time a key body = refl
-one-kind false c time a key body = refl
-
-pub placed-or-lost : (l : Ledger) (i : ℕ) (e : Event) (a : Answer)
-    → one (receivedOn l i e a) ≡ length (placedIf (receivedOn l i e a && not (lostRule l i e)) e) + one (receivedOn l i e a && lostRule l i e)
-placed-or-lost l i (OPEN time r) a = refl
-placed-or-lost l i (CLOSE time r reason) a = refl
-placed-or-lost l i (TICK time) a = refl
-placed-or-lost l i (RECEIVE time x key body) a =
-    one-kind (receivedOn l i (RECEIVE time x key body) a) (lostRule l i (RECEIVE time x key body)) time x key body
-
-pub entry-balanced : (l : Ledger) (n k : ℕ) (e : Event) (i : ℕ) → i < length (l .lines) → Balanced (lineAt l i) → Balanced (lineAt (entryOf l n k e .ledger) i)
-entry-balanced l n k e i low = step-balanced (entry-moves l n k e .line i low) (placed-or-lost l i e (answerOf l n k e))
-
-pub after-balanced : (l : Ledger) (n : ℕ) (es : List Lent) (i : ℕ) → i < length (l .lines) → Balanced (lineAt l i) → Balanced (lineAt (ledgerAfter l n es) i)
-after-balanced l n [] i low b = b
-after-balanced l n (e ∷ es) i low b =
-    let k = length (e .output) in
-    after-balanced (entryOf l n k (e .event) .ledger) n es i (omega (arith, entry-length l n k (e .event))) (entry-balanced l n k (e .event) i low b)
-
--- A fresh ledger: as many lines as routes, nothing counted, no files.
-pub record Fresh (x : Line) : Type 0 where
-  pub received : x .received ≡ 0
-  pub lost : x .lost ≡ 0
-  pub losses : x .losses ≡ 0
-  pub unrouted : x .unrouted ≡ 0
-  pub closed : x .closed ≡ []
-  pub current : x .current ≡ none
-
-module _ (xs : List ℕ) where
-  lines-length : (n : ℕ) → length (linesFrom xs n) ≡ n
-  lines-length zero = refl
-  lines-length (suc n) = length-append (linesFrom xs n) (lineFrom xs (routeStart n) ∷ []) ∙ omega (arith, lines-length n)
-
-  fresh-more : (k : ℕ) (ls : List Line) → ((i : ℕ) → Fresh (getD ls i noLine)) → (i : ℕ) → Fresh (getD (ls ++ (lineFrom xs k ∷ [])) i noLine)
-  fresh-more k [] h zero = record { received = refl; lost = refl; losses = refl; unrouted = refl; closed = refl; current = refl }
-  fresh-more k [] h (suc i) = record { received = refl; lost = refl; losses = refl; unrouted = refl; closed = refl; current = refl }
-  fresh-more k (x ∷ ls) h zero = h zero
-  fresh-more k (x ∷ ls) h (suc i) = fresh-more k ls (λ j. h (suc j)) i
-
-  fresh-lines : (n i : ℕ) → Fresh (getD (linesFrom xs n) i noLine)
-  fresh-lines zero i = record { received = refl; lost = refl; losses = refl; unrouted = refl; closed = refl; current = refl }
-  fresh-lines (suc n) i = fresh-more (routeStart n) (linesFrom xs n) (fresh-lines n) i
-
-  pub fresh-length : length (ledgerFrom xs .lines) ≡ routesIn xs
-  fresh-length = lines-length (routesIn xs)
-
-  pub fresh-line : (i : ℕ) → Fresh (lineAt (ledgerFrom xs) i)
-  fresh-line = fresh-lines (routesIn xs)
-
-  fresh-balance : {x : Line} → Fresh x → Balanced x
-  fresh-balance {x} h = h .received ∙ sym (λ j. held (h .closed j) + length (recordsIn (h .current j)) + h .lost j)
-
--- D and E from a fresh ledger
-module _ (xs : List ℕ) (n : ℕ) (es : List Lent) where
-  pub fresh-unrouted : ledgerAfter (ledgerFrom xs) n es .unrouted ≡ unroutedB (ledgerFrom xs) es (booksOf (ledgerFrom xs) n es)
-  fresh-unrouted = omega (arith, after-unrouted (ledgerFrom xs) n es)
-
-  module _ (i : ℕ) (low : i < routesIn xs) where
-    inside : i < length (ledgerFrom xs .lines)
-    inside = omega (arith, fresh-length xs)
-
-    pub fresh-received : lineAt (ledgerAfter (ledgerFrom xs) n es) i .received ≡ receivedB (ledgerFrom xs) i es (booksOf (ledgerFrom xs) n es)
-    fresh-received = omega (arith, after-received (ledgerFrom xs) n es i inside, fresh-line xs i .received)
-
-    pub fresh-lost : lineAt (ledgerAfter (ledgerFrom xs) n es) i .lost ≡ lostB (ledgerFrom xs) i es (booksOf (ledgerFrom xs) n es)
-    fresh-lost = omega (arith, after-lost (ledgerFrom xs) n es i inside, fresh-line xs i .lost)
-
-    pub fresh-closed : lineAt (ledgerAfter (ledgerFrom xs) n es) i .closed ≡ closedOn i (booksOf (ledgerFrom xs) n es)
-    fresh-closed =
-        after-closed (ledgerFrom xs) n es i inside
-        ∙ ap (λ (fs : List File). fs ++ closedOn i (booksOf (ledgerFrom xs) n es)) (fresh-line xs i .closed)
-
-    pub fresh-records : flat (closedOn i (booksOf (ledgerFrom xs) n es)) ++ recordsOf (lineAt (ledgerAfter (ledgerFrom xs) n es) i)
-        ≡ placedB (ledgerFrom xs) i es (booksOf (ledgerFrom xs) n es)
-    fresh-records =
-        sym (ap (λ (fs : List File). flat fs ++ recordsOf (lineAt (ledgerAfter (ledgerFrom xs) n es) i)) fresh-closed)
-        ∙ after-records (ledgerFrom xs) n es i inside
-        ∙ (λ j. (flat (fresh-line xs i .closed j) ++ recordsIn (fresh-line xs i .current j)) ++ placedB (ledgerFrom xs) i es (booksOf (ledgerFrom xs) n es))
-
-    -- the loss counts: those in the closed files and the pending ones are the lost and the unrouted records
-    fresh-small : Small (lineAt (ledgerFrom xs) i)
-    fresh-small = record { losses = omega (arith, fresh-line xs i .losses); unrouted = omega (arith, fresh-line xs i .unrouted) }
-
-    pub fresh-known : known (closedOn i (booksOf (ledgerFrom xs) n es)) + lineAt (ledgerAfter (ledgerFrom xs) n es) i .losses
-        ≡ lostB (ledgerFrom xs) i es (booksOf (ledgerFrom xs) n es)
-    fresh-known =
-        let k = ran (ledgerFrom xs) n es .line i inside .known fresh-small in
-        omega (arith, k, ap known fresh-closed, ap known (fresh-line xs i .closed), fresh-line xs i .losses)
-
-    pub fresh-noted : noted (closedOn i (booksOf (ledgerFrom xs) n es)) + lineAt (ledgerAfter (ledgerFrom xs) n es) i .unrouted
-        ≡ unroutedB (ledgerFrom xs) es (booksOf (ledgerFrom xs) n es)
-    fresh-noted =
-        let k = ran (ledgerFrom xs) n es .line i inside .noted fresh-small in
-        omega (arith, k, ap noted fresh-closed, ap noted (fresh-line xs i .closed), fresh-line xs i .unrouted)
-
-    pub fresh-counted : Counted (closedOn i (booksOf (ledgerFrom xs) n es))
-    fresh-counted = after-counted (ledgerFrom xs) n es i inside
-
-    pub fresh-balanced : Balanced (lineAt (ledgerAfter (ledgerFrom xs) n es) i)
-    fresh-balanced = after-balanced (ledgerFrom xs) n es i inside (fresh-balance xs (fresh-line xs i))
-
-    -- received = closed + open + lost, as the list says
-    pub fresh-sum : receivedB (ledgerFrom xs) i es (booksOf (ledgerFrom xs) n es)
-        ≡ held (closedOn i (booksOf (ledgerFrom xs) n es)) + length (recordsOf (lineAt (ledgerAfter (ledgerFrom xs) n es) i))
-        + lostB (ledgerFrom xs) i es (booksOf (ledgerFrom xs) n es)
-    fresh-sum =
-        sym fresh-received ∙ fresh-balanced
-        ∙ (λ j. held (fresh-closed j) + length (recordsOf (lineAt (ledgerAfter (ledgerFrom xs) n es) i)) + fresh-lost j)

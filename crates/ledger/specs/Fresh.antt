@@ -18,7 +18,7 @@ use Rattle.settings.specs.Accepted.{refusal-is, accepted-right, accepted-route}
 use Rattle.ledger.specs.Ledger.{lineAt, noLine}
 use Rattle.ledger.specs.Run.{lineFrom, linesFrom, setsFrom, ledgerFrom}
 use Rattle.ledger.specs.Agrees.{Agrees, AgreesLine, AgreesSets}
-use Rattle.ledger.specs.Books.{fresh-length}
+use Rattle.ledger.specs.Lists.{fresh-length}
 
 -- the lines by number
 lines-length : (xs : List ℕ) (n : ℕ) → length (linesFrom xs n) ≡ n

@@ -1,5 +1,5 @@
--- Demand 3 (Demand3.antt) holds: each event holds (Steps and what follows it), so any list does (Claim); the books give the
--- counts, and a closed file is right, so the reader accepts it. Assumes nothing.
+-- Demand 3 (Demand3.antt) holds: each event holds (Steps and what follows it), so any list of calls does (Claim); the books give the
+-- counts (Lists), and a closed file is right, so the reader accepts it. Assumes nothing.
 use mathlib.Core.Path.{_≡_, refl, sym, ap, _∙_, subst}
 use mathlib.Core.Bool.{Bool, true, false, cond}
 use mathlib.Core.List.{List, [], _∷_, _++_}
@@ -27,19 +27,19 @@ use Rattle.settings.specs.Settings.{routesIn, setsIn, managerFrom, settled, ver
 use Rattle.settings.specs.Held.{fresh-held}
 use Rattle.words.specs.Words.{managerIn, wordsOf}
 use Rattle.words.specs.Laws.{count-in}
-use Rattle.ledger.specs.Event.{OPEN, CLOSE, TICK, RECEIVE, Lent}
+use Rattle.ledger.specs.Event.{OPEN, CLOSE, TICK, RECEIVE, Lent, heard}
 use Rattle.ledger.specs.Ledger.{Current, none, some, lineAt, recordsIn, recordsOf, Closing}
-use Rattle.ledger.specs.Run.{runOf, Booked, booksOf, endOf, storeAfter, ledgerAfter, ledgerFrom}
+use Rattle.ledger.specs.Run.{runOf, booksOf, closingsIn, endOf, storeAfter, ledgerAfter, ledgerFrom}
 use Rattle.ledger.specs.Agrees.{AgreesLine, AgreesFile}
-use Rattle.ledger.specs.Books.{flat, held, known, noted, Counted, same-length, after-same, fresh-length, received-booked, lost-booked, unrouted-booked, placed-booked, fresh-received, fresh-lost, fresh-closed, fresh-records, fresh-known, fresh-noted, fresh-counted, fresh-sum, fresh-unrouted}
+use Rattle.ledger.specs.Books.{flat, held, known, noted, Counted, same-length}
+use Rattle.ledger.specs.Lists.{ran, heardBy, said-same, fresh-length, fresh-received, fresh-lost, fresh-closed, fresh-records, fresh-known, fresh-noted, fresh-counted, fresh-sum, fresh-unrouted}
 use Rattle.ledger.specs.Steps.{AllRightFiles, open-holds}
 use Rattle.ledger.specs.StepClose.{close-holds}
 use Rattle.ledger.specs.StepTick.{tick-holds}
 use Rattle.ledger.specs.StepReceive.{receive-holds}
-use Rattle.ledger.specs.Listed.{closed-below, lost-exactly}
-use Rattle.ledger.specs.Claim.{AllRightBooks, EventHolds, runs}
+use Rattle.ledger.specs.Claim.{EventHolds, runs}
 use Rattle.ledger.specs.Fresh.{fresh-agrees}
-use Rattle.ledger.specs.Demand3.{AllGiven, counted, walked, AllAccepted, AllCounted, lossesIn, unroutedIn, onRoute, closedOn, openCount, ClosedBelow, Demand3, Claim}
+use Rattle.ledger.specs.Demand3.{AllGiven, LostExactly, received, lost, unrouted, placed, counted, walked, AllAccepted, AllCounted, lossesIn, unroutedIn, onRoute, closedOn, AllBelow, openCount, happened, Demand3, Claim}
 
 -- A right file as the reader reads it.
 module _ (f : File) (r : RightFile f) where
@@ -93,14 +93,6 @@ on-right i (c ∷ cs) a = go (eqb (c .route) i) (on-right i cs (a .1))
     go true rest = (a .0, rest)
     go false rest = rest
 
-joined-right : (fs gs : List File) → AllRight fs → AllRight gs → AllRight (fs ++ gs)
-joined-right [] gs a b = b
-joined-right (f ∷ fs) gs a b = (a .0, joined-right fs gs (a .1) b)
-
-closed-right : (i : ℕ) (bs : List Booked) → AllRightBooks bs → AllRight (closedOn i bs)
-closed-right i [] a = tt
-closed-right i (b ∷ bs) a = joined-right (onRoute i (b .entry .closings)) (closedOn i bs) (on-right i (b .entry .closings) (a .0)) (closed-right i bs (a .1))
-
 -- What a line says of the state and the store.
 module _ (store : List ℕ) (b : ℕ) (r : Route) where
   count-same : (c : Current) → AgreesFile store b r c → openCount r ≡ length (recordsIn c)
@@ -113,64 +105,65 @@ module _ (store : List ℕ) (b : ℕ) (r : Route) where
   stands-same (some f) h =
       ap walkOf ((λ i. cond (h .live i) (take (r .file .octets) (drop b store)) []) ∙ h .stands) ∙ walks (recordsOctets (f .records)) (f .records) (h .right) refl
 
-from-fresh : EventHolds → (xs store : List ℕ) (es : List Lent) → Octets xs → freshOf xs .refusal ≡ 0 → AllGiven es
-    → Demand3 (wordsOf (managerFrom xs (routesIn xs))) (ledgerFrom xs) store es
-from-fresh step xs store es o e g =
+from-fresh : EventHolds → (xs store : List ℕ) (cs : List Lent) → Octets xs → freshOf xs .refusal ≡ 0 → AllGiven cs
+    → Demand3 (wordsOf (managerFrom xs (routesIn xs))) (ledgerFrom xs) store cs
+from-fresh step xs store cs o e g =
     let m = managerFrom xs (routesIn xs) in
     let l = ledgerFrom xs in
     let n = length store in
     let words = wordsOf m in
-    let w = runs step m store l es (fresh-agrees xs o e store) (fresh-held xs o (routesIn xs) (setsIn xs)) g in
-    let bs = booksOf l n es in
-    let done = runOf words store es in
-    let end = managerIn (endOf words store es) in
-    let z = ledgerAfter l n es in
+    let w = runs step m store l cs (fresh-agrees xs o e store) (fresh-held xs o (routesIn xs) (setsIn xs)) g in
+    let bs = booksOf l n cs in
+    let end = managerIn (endOf words store cs) in
+    let z = ledgerAfter l n cs in
+    let books = ran l n cs in
+    -- what is said over the list is what the ledger says
+    let same : happened words store cs ≡ heardBy l n cs = ap (heard cs) (said-same cs (runOf words store cs) bs (w .answered)) in
     let low : (i : ℕ) → i < routesIn xs → i < end .count =
-    λ i h. omega (arith, w .agrees .count, same-length (after-same l n es), fresh-length xs) in
-    let line : (i : ℕ) → i < routesIn xs → AgreesLine (storeAfter words store es) (base end i) (routeAt end i) (lineAt z i) = λ i h. w .agrees .lines i (low i h) in
+    λ i h. omega (arith, w .agrees .count, same-length (books .same), fresh-length xs) in
+    let line : (i : ℕ) → i < routesIn xs → AgreesLine (storeAfter words store cs) (base end i) (routeAt end i) (lineAt z i) = λ i h. w .agrees .lines i (low i h) in
+    let count : (i : ℕ) → i < routesIn xs → openCount (routeAt end i) ≡ length (recordsOf (lineAt z i)) =
+    λ i h. count-same (storeAfter words store cs) (base end i) (routeAt end i) (lineAt z i .current) (line i h .file) in
+    let right : (i : ℕ) → AllRight (closedOn i bs) = λ i. on-right i (closingsIn bs) (w .right) in
     let c : managerIn words .count ≡ routesIn xs = count-in m in
     let at : (i : ℕ) → i < managerIn words .count → i < routesIn xs = λ i h. omega (arith, c) in
     record {
       answered = w .answered;
-      configured = subst (λ (k : ℕ). ClosedBelow k bs) (fresh-length xs ∙ sym c) (closed-below l n es);
-      filed = λ i h. fresh-closed xs n es i (at i h);
-      lost-exactly = lost-exactly l n es done (w .answered);
+      configured = subst (λ (k : ℕ). AllBelow k (closingsIn bs)) (fresh-length xs ∙ sym c) (books .below);
+      filed = λ i h. fresh-closed xs n cs i (at i h);
+      lost-exactly = subst (LostExactly l) (sym same) (books .exactly);
       balance =
           λ i h.
-          received-booked l es done bs (w .answered) i
-          ∙ fresh-sum xs n es i (at i h)
-          ∙ (λ j. sym (all-counted (closedOn i bs) (closed-right i bs (w .right))) j + sym (count-same (storeAfter words store es) (base end i) (routeAt end i) (lineAt z i .current) (line i (at i h) .file)) j + sym (lost-booked l es done bs (w .answered) i) j);
+          ap (received l i) same
+          ∙ fresh-sum xs n cs i (at i h)
+          ∙ (λ j. sym (all-counted (closedOn i bs) (right i)) j + sym (count i (at i h)) j + lost l i (sym same j));
       kept =
           λ i h. (
             recordsOf (lineAt z i),
-            stands-same (storeAfter words store es) (base end i) (routeAt end i) (lineAt z i .current) (line i (at i h) .file),
-            placed-booked l es done bs (w .answered) i
-                ∙ sym (fresh-records xs n es i (at i h))
-                ∙ ap (λ (rs : List Record). rs ++ recordsOf (lineAt z i)) (sym (all-walked (closedOn i bs) (closed-right i bs (w .right)))),
+            stands-same (storeAfter words store cs) (base end i) (routeAt end i) (lineAt z i .current) (line i (at i h) .file),
+            ap (placed l i) same
+                ∙ sym (fresh-records xs n cs i (at i h))
+                ∙ ap (λ (rs : List Record). rs ++ recordsOf (lineAt z i)) (sym (all-walked (closedOn i bs) (right i))),
           );
-      accepted = λ i h. all-accepted (closedOn i bs) (closed-right i bs (w .right));
-      counts = λ i h. all-counts (closedOn i bs) (closed-right i bs (w .right)) (fresh-counted xs n es i (at i h));
+      accepted = λ i h. all-accepted (closedOn i bs) (right i);
+      counts = λ i h. all-counts (closedOn i bs) (right i) (fresh-counted xs n cs i (at i h));
       known-losses =
           λ i h.
-          (λ j. all-losses (closedOn i bs) (closed-right i bs (w .right)) j + line i (at i h) .losses j)
-          ∙ fresh-known xs n es i (at i h)
-          ∙ sym (lost-booked l es done bs (w .answered) i);
+          (λ j. all-losses (closedOn i bs) (right i) j + line i (at i h) .losses j)
+          ∙ fresh-known xs n cs i (at i h)
+          ∙ ap (lost l i) (sym same);
       unrouted-records =
           λ i h.
-          (λ j. all-unrouted (closedOn i bs) (closed-right i bs (w .right)) j + line i (at i h) .unrouted j)
-          ∙ fresh-noted xs n es i (at i h)
-          ∙ sym (unrouted-booked l es done bs (w .answered));
-      counters = λ i h. (
-        count-same (storeAfter words store es) (base end i) (routeAt end i) (lineAt z i .current) (line i (at i h) .file),
-        line i (at i h) .losses,
-        line i (at i h) .unrouted,
-      );
+          (λ j. all-unrouted (closedOn i bs) (right i) j + line i (at i h) .unrouted j)
+          ∙ fresh-noted xs n cs i (at i h)
+          ∙ ap (unrouted l) (sym same);
+      counters = λ i h. (count i (at i h), line i (at i h) .losses, line i (at i h) .unrouted);
       booked = λ i h. (
-        fresh-received xs n es i (at i h) ∙ sym (received-booked l es done bs (w .answered) i),
-        fresh-lost xs n es i (at i h) ∙ sym (lost-booked l es done bs (w .answered) i),
+        fresh-received xs n cs i (at i h) ∙ ap (received l i) (sym same),
+        fresh-lost xs n cs i (at i h) ∙ ap (lost l i) (sym same),
       );
       unrouted-counter = w .agrees .unrouted;
-      unrouted-listed = w .agrees .unrouted ∙ fresh-unrouted xs n es ∙ sym (unrouted-booked l es done bs (w .answered));
+      unrouted-listed = w .agrees .unrouted ∙ fresh-unrouted xs n cs ∙ ap (unrouted l) (sym same);
     }
 
 -- accepted settings give this manager
@@ -190,5 +183,5 @@ event store m l a (TICK time) output g = tick-holds a output time
 event store m l a (RECEIVE time v key body) output g = receive-holds a output time v key body g
 
 pub demand-3 : Claim
-demand-3 xs store es o e g =
-    subst (λ (m : Manager). Demand3 (wordsOf m) (ledgerFrom xs) store es) (sym (fresh-manager xs e)) (from-fresh event xs store es o e g)
+demand-3 xs store cs o e g =
+    subst (λ (m : Manager). Demand3 (wordsOf m) (ledgerFrom xs) store cs) (sym (fresh-manager xs e)) (from-fresh event xs store cs o e g)

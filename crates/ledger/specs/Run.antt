@@ -1,5 +1,5 @@
--- A list of events from a fresh manager, and from a fresh ledger fed the same (document 01, The ledger of demand 3). The
--- manager's side is the fold of the very definitions that the contracts of the events cite, on the words that it is lent.
+-- A list of calls from a fresh manager, and from a fresh ledger fed the same (document 01, The ledger of demand 3; document 02, ask 8).
+-- The manager's side is the fold of the very definitions that the contracts of the calls cite, on the words that it is lent.
 -- Assumes nothing.
 use mathlib.Core.List.{List, [], _∷_, _++_}
 use Prim.Native.Nat.{ℕ, zero, suc, _+_}
@@ -12,8 +12,10 @@ use Rattle.events.specs.declared.Answer.{Answer}
 use Rattle.events.specs.Events.{After, openOf, closeOf, tickOf}
 use Rattle.events.specs.Receive.{receiveOf}
 use Rattle.events.specs.Lent.{Left, openOn, closeOn, tickOn, receiveOn}
-use Rattle.ledger.specs.Event.{Event, OPEN, CLOSE, TICK, RECEIVE, Lent}
+use Rattle.packets.specs.Fold.{Taken, packetOn}
+use Rattle.ledger.specs.Event.{Event, OPEN, CLOSE, TICK, RECEIVE, Call, EVENT, PACKET, Lent, Said, ANSWER, ANSWERS}
 use Rattle.ledger.specs.Ledger.{none, Line, Ledger, Closing, Entry, answerOf, entryOf}
+use Rattle.ledger.specs.Packets.{Packed, packetOf}
 
 -- an event on the state
 abbrev pub happens : Manager → List ℕ → List ℕ → Event → After
@@ -29,45 +31,84 @@ leaves words store output (CLOSE time i reason) = closeOn words store output tim
 leaves words store output (TICK time) = tickOn words store output time
 leaves words store output (RECEIVE time a key body) = receiveOn words store output time a key body
 
--- what each event of a list leaves
-abbrev pub runOf : List ℕ → List ℕ → List Lent → List Left
-runOf words store [] = []
-runOf words store (e ∷ es) =
-    leaves words store (e .output) (e .event)
-    ∷ runOf (leaves words store (e .output) (e .event) .words) (leaves words store (e .output) (e .event) .store) es
+-- what a call says, and leaves of what it was lent
+pub record Done : Type 0 where
+  pub said : Said
+  pub words : List ℕ
+  pub store : List ℕ
+  pub output : List ℕ
 
--- what the ledger says of each event: the answer and the entry
+abbrev pub byEvent : Left → Done
+byEvent x = record { said = ANSWER (x .answer); words = x .words; store = x .store; output = x .output }
+
+abbrev pub byPacket : Taken → Done
+byPacket t = record { said = ANSWERS (t .refusal) (t .accepted) (t .answers); words = t .words; store = t .store; output = t .output }
+
+abbrev pub doneBy : List ℕ → List ℕ → List ℕ → Call → Done
+doneBy words store output (EVENT e) = byEvent (leaves words store output e)
+doneBy words store output (PACKET xs) = byPacket (packetOn words store output xs)
+
+-- what each call of a list leaves
+abbrev pub runOf : List ℕ → List ℕ → List Lent → List Done
+runOf words store [] = []
+runOf words store (c ∷ cs) =
+    doneBy words store (c .output) (c .call)
+    ∷ runOf (doneBy words store (c .output) (c .call) .words) (doneBy words store (c .output) (c .call) .store) cs
+
+-- what is said to each
+abbrev pub saidIn : List Done → List Said
+saidIn [] = []
+saidIn (x ∷ done) = x .said ∷ saidIn done
+
+-- what the ledger says of each call, and its entry
 pub record Booked : Type 0 where
-  pub answer : Answer
+  pub said : Said
   pub entry : Entry
 
-abbrev pub booked : Ledger → ℕ → Lent → Booked
-booked l store e =
-    record { answer = answerOf l store (length (e .output)) (e .event); entry = entryOf l store (length (e .output)) (e .event) }
+abbrev pub byEntry : Answer → Entry → Booked
+byEntry answer e = record { said = ANSWER answer; entry = e }
+
+abbrev pub byPacked : Packed → Booked
+byPacked p = record { said = ANSWERS (p .refusal) (p .accepted) (p .answers); entry = p .entry }
+
+abbrev pub booked : Ledger → ℕ → ℕ → Call → Booked
+booked l store output (EVENT e) = byEntry (answerOf l store output e) (entryOf l store output e)
+booked l store output (PACKET xs) = byPacked (packetOf l store output xs)
 
 abbrev pub booksOf : Ledger → ℕ → List Lent → List Booked
 booksOf l store [] = []
-booksOf l store (e ∷ es) = booked l store e ∷ booksOf (booked l store e .entry .ledger) store es
+booksOf l store (c ∷ cs) =
+    booked l store (length (c .output)) (c .call) ∷ booksOf (booked l store (length (c .output)) (c .call) .entry .ledger) store cs
 
--- the octets of the files that close at an event, one behind another
+-- what the ledger says to each
+abbrev pub bookedIn : List Booked → List Said
+bookedIn [] = []
+bookedIn (b ∷ bs) = b .said ∷ bookedIn bs
+
+-- the files that close over a list of calls, in order
+abbrev pub closingsIn : List Booked → List Closing
+closingsIn [] = []
+closingsIn (b ∷ bs) = b .entry .closings ++ closingsIn bs
+
+-- the octets of files that close, one behind another
 abbrev pub joined : List Closing → List ℕ
 joined [] = []
 joined (c ∷ cs) = layout (c .file) ++ joined cs
 
--- where a list of events ends
+-- where a list of calls ends
 abbrev pub endOf : List ℕ → List ℕ → List Lent → List ℕ
 endOf words store [] = words
-endOf words store (e ∷ es) =
-    endOf (leaves words store (e .output) (e .event) .words) (leaves words store (e .output) (e .event) .store) es
+endOf words store (c ∷ cs) =
+    endOf (doneBy words store (c .output) (c .call) .words) (doneBy words store (c .output) (c .call) .store) cs
 
 abbrev pub storeAfter : List ℕ → List ℕ → List Lent → List ℕ
 storeAfter words store [] = store
-storeAfter words store (e ∷ es) =
-    storeAfter (leaves words store (e .output) (e .event) .words) (leaves words store (e .output) (e .event) .store) es
+storeAfter words store (c ∷ cs) =
+    storeAfter (doneBy words store (c .output) (c .call) .words) (doneBy words store (c .output) (c .call) .store) cs
 
 abbrev pub ledgerAfter : Ledger → ℕ → List Lent → Ledger
 ledgerAfter l store [] = l
-ledgerAfter l store (e ∷ es) = ledgerAfter (booked l store e .entry .ledger) store es
+ledgerAfter l store (c ∷ cs) = ledgerAfter (booked l store (length (c .output)) (c .call) .entry .ledger) store cs
 
 -- the ledger of accepted settings: time and counts 0, no files, each route's first sequence number
 abbrev pub lineFrom : List ℕ → ℕ → Line

@@ -37,7 +37,7 @@ use Rattle.ledger.specs.Ledger.{OpenFile, Current, none, some, Line, Led
 use Rattle.ledger.specs.Ledger.{withLine, withTime as withBookTime}
 use Rattle.ledger.specs.Run.{joined}
 use Rattle.ledger.specs.Agrees.{AgreesOpen, AgreesLine, Agrees}
-use Rattle.ledger.specs.Right.{FileFacts, Appends, opened-right, appended-right}
+use Rattle.events.specs.Right.{FileFacts, Appends, opened-right, appended-right}
 use Rattle.ledger.specs.Files.{closed-same, size-is, file-right}
 use Rattle.ledger.specs.Lines.{line-closed, line-live, open-agrees, close-agrees, received-agrees, append-agrees, same-format, differs-agrees, exceeds-agrees, full-agrees, differs-closed, exceeds-closed, record-size}
 use Rattle.ledger.specs.Regions.{few, bias-right, region-within, regions-count, route-same, base-with, agrees-with, lines-elsewhere}
@@ -57,7 +57,7 @@ pub length-joined : (cs : List Closing) → length (joined cs) ≡ lengths cs
 length-joined [] = refl
 length-joined (c ∷ cs) = length-append (layout (c .file)) (joined cs) ∙ ap (λ (n : ℕ). length (layout (c .file)) + n) (length-joined cs)
 
-right-append : (cs ds : List Closing) → AllRightFiles cs → AllRightFiles ds → AllRightFiles (cs ++ ds)
+pub right-append : (cs ds : List Closing) → AllRightFiles cs → AllRightFiles ds → AllRightFiles (cs ++ ds)
 right-append [] ds p q = q
 right-append (c ∷ cs) ds p q = (p .0, right-append cs ds (p .1) q)
 

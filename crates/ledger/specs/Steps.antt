@@ -28,7 +28,7 @@ use Rattle.ledger.specs.Ledger.{effective as bookTime}
 use Rattle.ledger.specs.Ledger.{routeOf as routeBooked}
 use Rattle.ledger.specs.Run.{happens, joined}
 use Rattle.ledger.specs.Agrees.{Agrees}
-use Rattle.ledger.specs.Right.{opened-right}
+use Rattle.events.specs.Right.{opened-right}
 use Rattle.ledger.specs.Lines.{open-agrees}
 use Rattle.ledger.specs.Regions.{few, last-right, settings-right, settings-bounds, agrees-with}
 use Rattle.ledger.specs.Refusals.{open-refusal}

@@ -1,3 +1,4 @@
 pub mod Plan
 pub mod Files
 pub mod Made
+pub mod Joining

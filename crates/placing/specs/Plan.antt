@@ -60,11 +60,15 @@ pub record Suitable (r : Route) (a : Arrival) (body t : ℕ) : Type 0 where
   pub alone : aloneSize (r .settings .octets) (headerFor a .release) (recordSize a body) ≤ r .settings .limit
   pub time : t ≤ 52595999
 
+-- a record's octets
+pub size-is : (a : Arrival) (body : ℕ) {h : RecordHeader} {n : ℕ} → h ≡ headerFor a → n ≡ headerLength (h .release) → n + body ≡ recordSize a body
+size-is a body eh en = ap (λ (k : ℕ). k + body) (en ∙ ap (λ (g : RecordHeader). headerLength (g .release)) eh)
+
 -- What the code puts together, step by step, is the plan.
 module _ (r : Route) (a : Arrival) (body t : ℕ) {h : RecordHeader} {n : ℕ} {d x : Bool} {q : Route} (eh : h ≡ headerFor a)
     (en : n ≡ headerLength (h .release)) (ed : d ≡ differs r h) (ex : x ≡ exceeds r h (n + body)) (eq : q ≡ readied r (d || x) t) where
   pub size-made : n + body ≡ recordSize a body
-  size-made = ap (λ (k : ℕ). k + body) (en ∙ ap (λ (g : RecordHeader). headerLength (g .release)) eh)
+  size-made = size-is a body eh en
 
   differs-made : d ≡ differs r (headerFor a)
   differs-made = ed ∙ ap (differs r) eh

@@ -1,9 +1,12 @@
 // Placing a record in its route's file (document 01, The events): planned first, then written.
 mod carrying;
 mod file;
+mod joining;
 mod planning;
 
 use events::Arrival;
+pub use joining::does_join;
+pub use joining::join;
 pub use planning::header_for;
 use state::Node;
 use state::Route;

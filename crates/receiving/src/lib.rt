@@ -6,7 +6,10 @@ use events::Arrival;
 use routing::Counted;
 use state::Routed;
 ghost use mathlib.Core.Path.{_≡_};
+ghost use mathlib.Core.List.{[]};
 ghost use lib.ListN.{length};
+ghost use Rattle.refusals.specs.Refusal.{first};
+ghost use Rattle.state.specs.Common.{judged};
 ghost use Rattle.state.specs.Routing.{Routable};
 ghost use Rattle.words.specs.Words.{managerIn};
 ghost use Rattle.events.specs.Rules.{wrongFields, routedTo, comparedTo};
@@ -60,9 +63,28 @@ pub fn receive(
     if words.len() != 360 {
         return events::refuse(18, 0);
     }
-    let number = judging::common_refusal(words, store.len(), time);
+    let number = judging::state_refusal(words, store.len());
     if number != 0 {
         return events::refuse(number, 0);
+    }
+    take(words, store, output, time, a, key, body)
+}
+
+// The same on a state and a store that were judged: 18 and 16 do not apply.
+pub fn take(
+    words: &mut [u32],
+    store: &mut [u8],
+    output: &mut [u8],
+    time: u32,
+    a: Arrival,
+    key: &[u8],
+    body: &[u8],
+) -> Answer
+    requires { ⌜ (length (now words) ≡ 360) × (first (judged (managerIn (now words)) (length (now store)) []) ≡ 0) ⌝ }
+    ensures { λ r. ⌜ left r (now (words .exit)) (now (store .exit)) (now (output .exit)) ≡ receiveOn (now (words .entry)) (now (store .entry)) (now (output .entry)) time a (now (key .entry)) (now (body .entry)) ⌝ }
+{
+    if 52595999 < time {
+        return events::refuse(4, 0);
     }
     if wrong_fields(a, key.len()) {
         return events::refuse(5, 0);
@@ -77,8 +99,14 @@ pub fn receive(
     if pass::is_lost(r.settings, a, body.len()) {
         return pass::lost(words, t, i, r, to.compared);
     }
-    let n = words::node_of(words);
     let from = judging::region_base(words, i);
+    // Most records only join the open file.
+    if placing::does_join(r, a, body.len(), t) {
+        let joined = placing::join(from, r, store, t, a, body);
+        words::put(words, i, joined, t);
+        return events::accept(2, to.routed.at, 0, 0, to.compared);
+    }
+    let n = words::node_of(words);
     let p = placing::place(n, from, r, store, output, t, a, body);
     if !p.fits {
         return events::refuse(17, p.octets);

@@ -1,16 +1,17 @@
 //! Times the events of the proved manager beside the plain one on the same calls in the same run,
-//! and prints their ratios and events per second: RECEIVE, OPEN and CLOSE in turns, and TICK with
-//! nothing due. Before that both must answer and write the same. The plain manager is timed twice:
-//! as it is, owning its state, and *judged*, asking at each event whether its state is within the
-//! bounds of refusal 18, as a manager must that is lent one.
+//! and prints their ratios and events per second: RECEIVE, packets of 64 records, OPEN and CLOSE in
+//! turns, and TICK with nothing due. Before that both must answer and write the same. The plain
+//! manager is timed twice: as it is, owning its state, and *judged*, asking at each call whether its
+//! state is within the bounds of refusal 18, as a manager must that is lent one.
 
-use self::Work::{OpenAndClose, Receive, Tick};
+use self::Work::{OpenAndClose, Packets, Receive, Tick};
 use leveehum::fields::Release;
-use leveehum::manager::{self, Arrival, Manager};
+use leveehum::manager::{self, Arrival, Manager, Taken};
+use leveehum::packet::{self, Delivery, MOST_RECORDS};
 use leveehum::proved;
 use leveehum::random::Random;
 use leveehum::settings::{self, Node, Route};
-use leveehum::states::Answer;
+use leveehum::states::{Answer, Answers};
 use leveehum::timing::{best_of_both, RUNS};
 use leveehum::words::Words;
 use std::hint::black_box;
@@ -18,10 +19,11 @@ use std::process::ExitCode;
 
 /// The size limit of each route.
 const LIMIT: usize = 131_072;
-/// Events in one run: the records of eight files of that size, so that each run has its closings.
-const EVENTS: usize = 8 * 1_259;
+/// Events in one run: more than the records of eight files of that size, so that each run has its
+/// closings, and of full packets.
+const EVENTS: usize = 10_112;
 /// Events on which both are compared: enough that files of every case close.
-const COMPARED: usize = 100_000;
+const COMPARED: usize = 102_400;
 const BODY: usize = 100;
 const TIME: u32 = 8_547_030;
 /// The open-time limit of files that TICK finds open and not due.
@@ -34,6 +36,8 @@ const REASON: u32 = 4;
 enum Work {
     /// Of bodies of `BODY` octets.
     Receive,
+    /// The same records in full packets; an event is a record.
+    Packets,
     /// An empty file opens and closes on one route after another.
     OpenAndClose,
     /// Each route has an open file with one record.
@@ -51,11 +55,15 @@ struct Case {
 }
 
 #[rustfmt::skip]
-const CASES: [Case; 8] = [
+const CASES: [Case; 12] = [
     Case { name: "RECEIVE, one route, files of 128 KiB", work: Receive, routes: 1, filter: 0, most: 0 },
     Case { name: "RECEIVE, eight routes, files of 128 KiB", work: Receive, routes: 8, filter: 20, most: 0 },
     Case { name: "RECEIVE, one route, files of ten records", work: Receive, routes: 1, filter: 0, most: 10 },
     Case { name: "RECEIVE, eight routes, files of ten records", work: Receive, routes: 8, filter: 20, most: 10 },
+    Case { name: "packets, one route, files of 128 KiB", work: Packets, routes: 1, filter: 0, most: 0 },
+    Case { name: "packets, eight routes, files of 128 KiB", work: Packets, routes: 8, filter: 20, most: 0 },
+    Case { name: "packets, one route, files of ten records", work: Packets, routes: 1, filter: 0, most: 10 },
+    Case { name: "packets, eight routes, files of ten records", work: Packets, routes: 8, filter: 20, most: 10 },
     Case { name: "OPEN and CLOSE in turns, one route", work: OpenAndClose, routes: 1, filter: 0, most: 0 },
     Case { name: "OPEN and CLOSE in turns, eight routes", work: OpenAndClose, routes: 8, filter: 20, most: 0 },
     Case { name: "TICK with nothing due, one route", work: Tick, routes: 1, filter: 0, most: 0 },
@@ -90,22 +98,26 @@ impl<M> Desk<M> {
         Self {
             manager,
             store: vec![0; case.routes * LIMIT],
-            output: vec![0; LIMIT],
+            // A packet may close a file of every route.
+            output: vec![0; case.routes * LIMIT],
         }
     }
 }
 
-/// The four events, all at one time.
+/// The four events and packets, all at one time.
 trait Events {
     type Said;
+    type Taken;
     fn open(&mut self, route: u32) -> Self::Said;
     fn close(&mut self, route: u32) -> Self::Said;
     fn tick(&mut self) -> Self::Said;
     fn receive(&mut self, arrival: &Arrival) -> Self::Said;
+    fn take(&mut self, packet: &[u8]) -> Self::Taken;
 }
 
 impl Events for Desk<Words> {
     type Said = Answer;
+    type Taken = Answers;
 
     fn open(&mut self, route: u32) -> Answer {
         let (words, store, output) = (&mut self.manager, &mut self.store, &mut self.output);
@@ -126,10 +138,16 @@ impl Events for Desk<Words> {
         let (words, store, output) = (&mut self.manager, &mut self.store, &mut self.output);
         proved::receive(words, store, output, TIME, arrival)
     }
+
+    fn take(&mut self, packet: &[u8]) -> Answers {
+        let (words, store, output) = (&mut self.manager, &mut self.store, &mut self.output);
+        proved::take(words, store, output, packet)
+    }
 }
 
 impl Events for Desk<Manager> {
     type Said = manager::Answer;
+    type Taken = Taken;
 
     fn open(&mut self, route: u32) -> manager::Answer {
         self.manager.open(&self.store, TIME, route)
@@ -148,6 +166,11 @@ impl Events for Desk<Manager> {
         let (store, output) = (&mut self.store, &mut self.output);
         self.manager.receive(store, output, TIME, arrival)
     }
+
+    fn take(&mut self, packet: &[u8]) -> Taken {
+        let (store, output) = (&mut self.store, &mut self.output);
+        self.manager.take(store, output, packet)
+    }
 }
 
 /// The plain manager, judged.
@@ -165,6 +188,7 @@ impl Judged<'_> {
 
 impl Events for Judged<'_> {
     type Said = manager::Answer;
+    type Taken = Result<Taken, (u8, usize)>;
 
     fn open(&mut self, route: u32) -> manager::Answer {
         self.desk()?.open(route)
@@ -180,6 +204,10 @@ impl Events for Judged<'_> {
 
     fn receive(&mut self, arrival: &Arrival) -> manager::Answer {
         self.desk()?.receive(arrival)
+    }
+
+    fn take(&mut self, packet: &[u8]) -> Result<Taken, (u8, usize)> {
+        Ok(self.desk()?.take(packet))
     }
 }
 
@@ -226,6 +254,7 @@ impl Both<'_> {
 
 impl Events for Both<'_> {
     type Said = ();
+    type Taken = ();
 
     fn open(&mut self, route: u32) {
         let answer = self.proved.open(route);
@@ -249,6 +278,24 @@ impl Events for Both<'_> {
         let answer = self.proved.receive(arrival);
         let expected = self.plain.receive(arrival);
         self.compare(answer, expected);
+    }
+
+    fn take(&mut self, packet: &[u8]) {
+        let (taken, plain) = (self.proved.take(packet), self.plain.take(packet));
+        let expected = Answers::from(&plain);
+        let (index, octets) = (
+            self.events,
+            taken.answers.iter().map(|answer| answer.octets).sum(),
+        );
+        self.events += plain.accepted;
+        let (proved, plain): (&[u8], &[u8]) = (&self.proved.output, &self.plain.output);
+        let what = match taken == expected && taken.refusal == 0 {
+            true if proved.get(..octets) == plain.get(..octets) => return,
+            true => "the closed files differ".to_owned(),
+            false => format!("plain {expected:?}, proved {taken:?}"),
+        };
+        self.difference
+            .get_or_insert(format!("event {index}: {what}"));
     }
 }
 
@@ -274,12 +321,33 @@ fn run(case: &Case) -> Result<(), String> {
     Ok(())
 }
 
-/// So many events of a case, on its routes in turn.
+/// A full packet of these records in turn.
+fn full_packet(arrivals: &[Arrival]) -> Vec<u8> {
+    let mut octets = Vec::new();
+    for &arrival in arrivals.iter().cycle().take(MOST_RECORDS) {
+        packet::lay(
+            &mut octets,
+            &Delivery {
+                time: TIME,
+                arrival,
+            },
+        );
+    }
+    octets
+}
+
+/// About so many events of a case, on its routes in turn.
 fn work_on(desk: &mut impl Events, work: Work, arrivals: &[Arrival], events: usize) {
     match work {
         Receive => {
             for arrival in arrivals.iter().cycle().take(events) {
                 black_box(desk.receive(black_box(arrival)));
+            }
+        }
+        Packets => {
+            let packet = full_packet(arrivals);
+            for _ in 0..events / MOST_RECORDS {
+                black_box(desk.take(black_box(&packet)));
             }
         }
         OpenAndClose => {

@@ -1,9 +1,9 @@
 //! Compares the proved manager with the plain one on the words of forged states, in one process and
 //! from a fixed seed: all four events on states beyond each bound of refusal 18, on their neighbours
 //! within it, on states with full counters, on random states and on fresh ones, on random words and
-//! on words of every wrong number. Answer, words, store and output must be the same. Prints how often
-//! each condition, full counter, kind of words, refusal and outcome came, or the first difference and
-//! the call on which it did.
+//! on words of every wrong number; and packets on all these states. Answer, words, store and output
+//! must be the same. Prints how often each condition, full counter, kind of words, refusal, outcome
+//! and end of a packet came, or the first difference and the call on which it did.
 
 use leveehum::bounds;
 use leveehum::faults::FAULTS;
@@ -12,6 +12,7 @@ use leveehum::full::FULL;
 use leveehum::manager::{
     Manager, LONGEST_FILTER, MOST_ROUTES, MOST_SETS, NODE_OCTETS, ROUTE_OCTETS,
 };
+use leveehum::packet_trials::{PacketAfter, PacketTrial};
 use leveehum::proved;
 use leveehum::random::Random;
 use leveehum::settings::set_time;
@@ -74,6 +75,8 @@ struct Counts {
     /// Calls on forged words, by their kind.
     words: Tally,
     events: Tally,
+    /// Packets by the refusal that ended them.
+    packets: Tally,
     /// Calls on states within the bounds, and those of them that no list of events reaches.
     within: usize,
     unreachable: usize,
@@ -195,7 +198,11 @@ fn compare_number(
     number: usize,
     counts: &mut Counts,
 ) -> Result<usize, String> {
-    let mut trials = Trial::all(random, &State::from_words(words));
+    let state = State::from_words(words);
+    let mut packet = PacketTrial::new(random, &state);
+    packet.words.resize(number, random.word() as u32);
+    compare_packet(&packet, counts)?;
+    let mut trials = Trial::all(random, &state);
     for trial in &mut trials {
         trial.words.resize(number, random.word() as u32);
     }
@@ -281,7 +288,45 @@ fn compare_all(random: &mut Random, state: &State, counts: &mut Counts) -> Resul
     if is_within && !Manager::from_state(state).is_within_bounds() {
         return Err(format!("the plain manager is beyond its bounds\n{state:?}"));
     }
+    let packet = PacketTrial::new(random, state);
+    compare_packet(&packet, counts)?;
     compare_trials(&Trial::all(random, state), counts)
+}
+
+/// Runs both managers on a packet.
+fn compare_packet(trial: &PacketTrial, counts: &mut Counts) -> Result<(), String> {
+    let expected = trial.expected();
+    let mut after = PacketAfter {
+        answers: expected.answers,
+        words: trial.words.clone(),
+        store: trial.store.clone(),
+        output: trial.output.clone(),
+    };
+    after.answers = proved::take(
+        &mut after.words,
+        &mut after.store,
+        &mut after.output,
+        &trial.packet,
+    );
+    same("answers", &expected.answers, &after.answers)
+        .and_then(|()| same_items("words", &expected.words, &after.words))
+        .and_then(|()| same_items("store", &expected.store, &after.store))
+        .and_then(|()| same_items("output", &expected.output, &after.output))
+        .map_err(|what| {
+            let (words, packet) = (&trial.words, hexadecimal(&trial.packet));
+            format!("{what}\nwords {words:X?}\npacket {packet}")
+        })?;
+    let stands = if expected.answers.accepted > 0 {
+        "behind others"
+    } else {
+        "at once"
+    };
+    let name = match expected.answers.refusal {
+        0 => "a packet taken whole".to_owned(),
+        refusal => format!("a packet ended with {refusal} {stands}"),
+    };
+    add(&mut counts.packets, &name, 1);
+    Ok(())
 }
 
 /// Runs both managers on each trial; the number of calls.
@@ -419,6 +464,15 @@ fn expected_events() -> Vec<String> {
     names.extend((0..=8).map(ticked));
     names.extend([0, 1, 2, 3, 22].map(loaded_with));
     names
+}
+
+/// Every end of a packet that must come.
+fn expected_packets() -> Vec<String> {
+    let at_once = [4, 5, 11, 16, 17, 18, 19].map(|refusal| (refusal, "at once"));
+    let behind = [4, 5, 17, 19].map(|refusal| (refusal, "behind others"));
+    let ends = at_once.into_iter().chain(behind);
+    let names = ends.map(|(refusal, stands)| format!("a packet ended with {refusal} {stands}"));
+    names.chain(["a packet taken whole".to_owned()]).collect()
 }
 
 fn refused(refusal: u8) -> String {
@@ -587,6 +641,7 @@ impl Counts {
         all.extend(print_tally(&self.words, &expected_words()));
         println!("what came at all calls:");
         all.extend(print_tally(&self.events, &expected_events()));
+        all.extend(print_tally(&self.packets, &expected_packets()));
         let Self {
             calls,
             within,

@@ -7,7 +7,7 @@
 //!
 //! The proved program is `../target/bin/cdrgate`, or what CDRGATE_BIN names.
 
-use leveehum::audit::{audit, Counts, Tally, COMPARISONS, TOLD};
+use leveehum::audit::{audit, Counts, Tally, COMPARISONS, PACKETS, TOLD};
 use leveehum::gate;
 use leveehum::manager::MOST_ROUTES;
 use leveehum::program::{contents, ended_lines, lessons, proved_program, run_proved};
@@ -28,6 +28,7 @@ const REFUSALS: [u32; 12] = [1, 2, 3, 4, 5, 6, 7, 14, 15, 16, 17, 22];
 const OUTCOMES: [u32; 6] = [1, 2, 3, 4, 5, 6];
 const REASONS: [u32; 6] = [0, 1, 2, 3, 4, 5];
 const TICK_REASONS: [u32; 2] = [0, 2];
+const PACKET_ENDS: [u32; 6] = [0, 4, 5, 11, 16, 17];
 
 fn main() -> ExitCode {
     let arguments: Vec<String> = env::args().skip(1).collect();
@@ -155,6 +156,8 @@ fn compare_random(count: usize) -> Result<(), String> {
         complete("outcomes", &counts.outcomes, &OUTCOMES),
         complete("closure reasons", &counts.reasons, &REASONS),
         complete("TICK's", &counts.tick_reasons, &TICK_REASONS),
+        complete("packets' ends", &counts.packet_ends, &PACKET_ENDS),
+        complete_kinds("packets", PACKETS, &counts.packets),
         counts.most_files == MOST_ROUTES,
         counts.ends == wrong,
     ];

@@ -1,40 +1,25 @@
--- `judging::common_refusal` meets its contract: the rules are put together from the last to the first, as the
--- definition's list. Assumes nothing.
-use mathlib.Core.Path.{_∙_}
-use mathlib.Core.Bool.{cond, not}
-use lib.Dec.{ltb}
+-- `judging::common_refusal` meets its contract: what is judged comes first, and then the time. Assumes nothing.
+use mathlib.Core.Path.{sym, _∙_}
+use lib.ListN.{length}
 use borrow.Author.Needs.{needs}
+use Rattle.state.specs.Common.{judged-common, passed-common}
+use Rattle.words.specs.Words.{managerIn}
 use Rattle.judging.proofs.common_refusal.Statement.{statement}
 use Rattle.judging.proofs.common_refusal.Tie as tie
 
-state-right-requires : tie.Need-state-right-requires
-state-right-requires c κs = search needs
+state-refusal-requires : tie.Need-state-refusal-requires
+state-refusal-requires c κs = search needs
 
-regions-of-requires : tie.Need-regions-of-requires
-regions-of-requires c κs = search needs
+returns : tie.Need-returns
+returns c = let a = c .before .before .before .args in judged-common (managerIn (a .words .now)) (a .store) (a .time) (c .before .state-refusal .ensures) (c .if1 .taken)
 
 either-requires : tie.Need-either-requires
 either-requires c κs = search needs
 
-either-requires-2 : tie.Need-either-requires-2
-either-requires-2 c κs = search needs
-
-either-requires-3 : tie.Need-either-requires-3
-either-requires-3 c κs = search needs
-
-returns : tie.Need-returns
-returns c =
-    let a = c .before .before .before .before .before .before .args in
-    let short = c .before .either2 .ensures ∙ (λ i. cond (ltb (a .store) (c .before .before .before .regions-of .ensures i)) 16 (c .before .before .either .ensures i)) in
-    c .either3 .ensures ∙ (λ i. cond (not (c .before .before .before .before .state-right .ensures i)) 18 (short i))
+returns-2 : tie.Need-returns-2
+returns-2 c =
+    let a = c .before .before .before .before .args in
+    c .either .ensures ∙ passed-common (managerIn (a .words .now)) (a .store) (a .time) (sym (c .before .before .state-refusal .ensures) ∙ c .before .if1 .left)
 
 pub common-refusal-spec : {M : Type 1} → statement M
-common-refusal-spec =
-    tie.close
-    (tie.spec
-    state-right-requires
-    regions-of-requires
-    either-requires
-    either-requires-2
-    either-requires-3
-    returns)
+common-refusal-spec = tie.close (tie.spec state-refusal-requires returns either-requires returns-2)

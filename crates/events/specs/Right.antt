@@ -14,8 +14,10 @@ use Rattle.record.specs.Release.{narrowRelease, rank, extensionOctets}
 use Rattle.state.specs.declared.RouteSettings.{RouteSettings}
 use Rattle.state.specs.declared.OpenFile.{OpenFile}
 use Rattle.state.specs.Size.{headerSize}
-use Rattle.state.specs.Bounds.{sameRelease, fileRight}
+use Rattle.refusals.specs.Tests.{each}
+use Rattle.state.specs.Bounds.{sameRelease, fileTests, fileRight}
+use Rattle.state.specs.Within.{FileWithin, within-file}
 use Rattle.events.specs.Rules.{openedFile, later, earlier, highWith, lowWith, appendedFile}
 
 -- a disjunction with a true side
 or-true : (a : Bool) {b : Bool} → b ≡ true → (a || b) ≡ true
@@ -41,6 +43,28 @@ pub record FileFacts (last : ℕ) (s : RouteSettings) (f : OpenFile) : Type 0 wh
   pub plain-high : (not (eqb (f .count) 0) || sameRelease (f .high) (s .release)) ≡ true
   pub plain-low : (not (eqb (f .count) 0) || sameRelease (f .low) (s .release)) ≡ true
   pub below : (eqb (s .most) 0 || ltb (f .count) (s .most)) ≡ true
+
+-- what Within says, as they ask for it
+pub facts-of : {last : ℕ} {s : RouteSettings} {f : OpenFile} → FileWithin last s f → FileFacts last s f
+unfolding fileRight
+facts-of {last} {s} {f} w =
+    let t = each (fileTests last s f) (within-file last s f w) in
+    record {
+      opened = w .opened;
+      appended = w .appended;
+      order = w .ordered;
+      same = t 3;
+      high = w .high;
+      low = w .low;
+      format = w .format;
+      size = w .size;
+      four = w .records;
+      none = t 9;
+      empty = t 10;
+      plain-high = t 11;
+      plain-low = t 12;
+      below = t 13;
+    }
 
 pub file-right : {last : ℕ} {s : RouteSettings} {f : OpenFile} → FileFacts last s f → fileRight last s f ≡ true
 unfolding fileRight
