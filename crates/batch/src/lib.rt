@@ -87,7 +87,16 @@ fn take_all(
     let mut i: usize = 0;
     while i < n {
         let answer = take_at(words, store, &mut output[used..], packet, at);
-        r.answers[i] = answer;
+        // Field by field: copied as a whole, it would be waited for.
+        let kept = Answer {
+            refusal: answer.refusal,
+            outcome: answer.outcome,
+            route: answer.route,
+            files: answer.files,
+            compared: answer.compared,
+            octets: answer.octets,
+        };
+        r.answers[i] = kept;
         if answer.refusal != 0 {
             r.refusal = answer.refusal;
             r.accepted = i as u8;

@@ -5,7 +5,7 @@ ghost use lib.ListN.{length};
 ghost use Rattle.state.specs.Manager.{settingsAt};
 ghost use Rattle.state.specs.Bounds.{sameFilter, newTo, distinct};
 ghost use Rattle.words.specs.Words.{settingsIn, managerIn};
-ghost use Rattle.judging.specs.Sums.{filterSum, SumsOf, newSum, distinctSums};
+ghost use Rattle.judging.specs.Sums.{filterSum, newSum, distinctSums};
 use words::top_of;
 
 // Whether the routes that these words begin with have the same filter: as long, and the same words.
@@ -51,21 +51,6 @@ fn filter_sum(part: &[u32]) -> u64
     sum_of(part[0], part[1], part[2], part[3], part[4])
 }
 
-// The sums of the routes below n.
-fn filter_sums(words: &[u32], n: usize) -> [u64; 8]
-    requires { ⌜ (length (now words) ≡ 360) × (n ≤ 8) ⌝ }
-    ensures { λ r. ⌜ SumsOf (now (words .entry)) r n ⌝ }
-{
-    let mut sums = [0u64; 8];
-    let mut i: usize = 0;
-    while i < n {
-        let at = 8 + 19 * i;
-        sums[i] = filter_sum(&words[at..]);
-        i += 1;
-    }
-    sums
-}
-
 // Whether none of the sums below n is s.
 fn is_new_sum(sums: &[u64; 8], s: u64, n: usize) -> bool
     requires { ⌜ n ≤ 8 ⌝ }
@@ -80,29 +65,36 @@ fn is_new_sum(sums: &[u64; 8], s: u64, n: usize) -> bool
     new
 }
 
-// Whether no two of the sums below n are equal.
-fn are_sums_distinct(sums: &[u64; 8], n: usize) -> bool
-    requires { ⌜ n ≤ 8 ⌝ }
-    ensures { λ b. ⌜ b ≡ distinctSums (now (sums .entry)) n ⌝ }
+// Whether no two of the routes below n have the same sum. Each is compared with those before it as soon as it is known: all laid out first,
+// they would be waited for.
+fn are_sums_distinct(words: &[u32], n: usize) -> bool
+    requires { ⌜ (length (now words) ≡ 360) × (n ≤ 8) ⌝ }
+    ensures { λ b. ⌜ b ≡ distinctSums (now (words .entry)) n ⌝ }
 {
+    let mut sums = [0u64; 8];
     let mut differ = true;
     let mut i: usize = 0;
     while i < n {
-        let new = is_new_sum(sums, sums[i], i);
+        let at = 8 + 19 * i;
+        let sum = filter_sum(&words[at..]);
+        let new = is_new_sum(&sums, sum, i);
         differ = differ & new;
+        sums[i] = sum;
         i += 1;
     }
     differ
 }
 
-// Whether no two of the routes below n have equal filters. As a rule a number of each tells: only where two are equal are the filters
-// compared.
+// Whether no two of the routes below n have equal filters. One has none to be equal to. As a rule a number of each tells: only where two
+// are equal are the filters compared.
 pub fn are_distinct(words: &[u32], n: usize) -> bool
     requires { ⌜ (length (now words) ≡ 360) × (n ≤ 8) ⌝ }
     ensures { λ b. ⌜ b ≡ distinct (managerIn (now (words .entry))) n ⌝ }
 {
-    let sums = filter_sums(words, n);
-    if are_sums_distinct(&sums, n) {
+    if n < 2 {
+        return true;
+    }
+    if are_sums_distinct(words, n) {
         return true;
     }
     let mut all = true;

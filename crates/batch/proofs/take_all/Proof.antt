@@ -87,11 +87,11 @@ take-at-requires c κs =
     let l = c .before .before .before .before .loop in
     (l .inv .number, l .inv .right, taking-fits (l .inv) (c .before .before .before .loop-test .taken))
 
-mul-answer : tie.Need-mul-answer Inv-loop μ-loop
-mul-answer c = omega (arith, low (c .before .before .before .before .before .before))
+mul-kept : tie.Need-mul-kept Inv-loop μ-loop
+mul-kept c = omega (arith, low (c .before .before .before .before .before .before))
 
-element-set-from-answer : tie.Need-element-set-from-answer Inv-loop μ-loop
-element-set-from-answer c = low (c .before .before .before .before .before .before)
+element-set-from-kept : tie.Need-element-set-from-kept Inv-loop μ-loop
+element-set-from-kept c = low (c .before .before .before .before .before .before)
 
 cast-r : tie.Need-cast-r Inv-loop μ-loop
 cast-r c = omega (arith, low (c .before .before .before .before .before .before .before .before))
@@ -188,8 +188,8 @@ take-all-spec =
     part-take-at-start
     part-take-at-end
     take-at-requires
-    mul-answer
-    element-set-from-answer
+    mul-kept
+    element-set-from-kept
     cast-r
     same-length
     same-length-2

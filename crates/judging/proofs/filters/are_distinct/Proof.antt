@@ -1,5 +1,5 @@
--- `judging::filters::are_distinct` meets its contract: where no two sums are equal no two filters are, and else, before route i, `all` is the
--- definition's answer for the routes below i. Assumes nothing.
+-- `judging::filters::are_distinct` meets its contract: one route has none to be equal to, where no two sums are equal no two filters are, and
+-- else, before route i, `all` is the definition's answer for the routes below i. Assumes nothing.
 use borrow.Author.Needs.{needs}
 use mathlib.Core.Path.{_≡_, refl, sym, _∙_}
 use Prim.Native.Nat.{_≤_, _-_}
@@ -7,7 +7,7 @@ use native.Mathlib.Omega.{arith}
 use Rattle.refusals.specs.Below.{below-turn, below-end}
 use Rattle.state.specs.Bounds.{newAt, distinct}
 use Rattle.words.specs.Words.{managerIn}
-use Rattle.judging.specs.Sums.{sums-distinct}
+use Rattle.judging.specs.Sums.{sums-distinct, one-distinct}
 use Rattle.judging.proofs.filters.are_distinct.Statement.{statement}
 use Rattle.judging.proofs.filters.are_distinct.Tie as tie
 
@@ -17,17 +17,16 @@ Inv-loop words n all₀ i₀ all i = (i ≤ n) × (all ≡ distinct (managerIn w
 abbrev μ-loop : tie.MeasureT-loop
 μ-loop words n all₀ i₀ all i = n - i
 
-filter-sums-requires : tie.Need-filter-sums-requires Inv-loop μ-loop
-filter-sums-requires c κs = search needs
+returns : tie.Need-returns Inv-loop μ-loop
+returns c = let a = c .before .before .args in sym (one-distinct (a .words .now) (a .n) (omega arith))
 
 are-sums-distinct-requires : tie.Need-are-sums-distinct-requires Inv-loop μ-loop
 are-sums-distinct-requires c κs = search needs
 
-returns : tie.Need-returns Inv-loop μ-loop
-returns c =
-    let a = c .before .before .before .before .before .args in
-    let s = c .before .before .before .filter-sums in
-    sym (sums-distinct (a .words .now) (s .result) (a .n) (omega arith) (s .ensures) (sym (c .before .are-sums-distinct .ensures) ∙ c .if1 .taken))
+returns-2 : tie.Need-returns-2 Inv-loop μ-loop
+returns-2 c =
+    let a = c .before .before .before .before .args in
+    sym (sums-distinct (a .words .now) (a .n) (omega arith) (sym (c .before .are-sums-distinct .ensures) ∙ c .if2 .taken))
 
 loop-holds : tie.Need-loop-holds Inv-loop μ-loop
 loop-holds c = (search needs, refl)
@@ -44,13 +43,13 @@ loop-less c = search needs
 loop-again : tie.Need-loop-again Inv-loop μ-loop
 loop-again c =
     let l = c .before .before .loop in
-    let xs = c .before .before .before .before .before .before .before .before .args .words .now in
+    let xs = c .before .before .before .before .before .before .before .args .words .now in
     (search needs, below-turn (newAt (managerIn xs)) (l .i) (l .inv .1) (c .is-new .ensures))
 
-returns-2 : tie.Need-returns-2 Inv-loop μ-loop
-returns-2 c =
+returns-3 : tie.Need-returns-3 Inv-loop μ-loop
+returns-3 c =
     let l = c .before .loop in
-    let a = c .before .before .before .before .before .before .before .args in
+    let a = c .before .before .before .before .before .before .args in
     below-end (newAt (managerIn (a .words .now))) (l .i) (a .n) (l .inv .1) (omega arith)
 
 pub are-distinct-spec : {M : Type 1} → statement M
@@ -59,12 +58,12 @@ are-distinct-spec =
     (tie.spec
     Inv-loop
     μ-loop
-    filter-sums-requires
-    are-sums-distinct-requires
     returns
+    are-sums-distinct-requires
+    returns-2
     loop-holds
     is-new-requires
     add-i
     loop-less
     loop-again
-    returns-2)
+    returns-3)
