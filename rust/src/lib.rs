@@ -7,6 +7,7 @@ pub mod bounds;
 pub mod cdrcopy;
 pub mod cdrlist;
 pub mod cdrname;
+pub mod cdrshow;
 pub mod counts;
 pub mod dates;
 pub mod draft;

@@ -14,8 +14,8 @@ use Rattle.octets.specs.Splice.{splice, splice-then, splice-there}
 use Rattle.refusals.specs.Tests.{both, each}
 use Rattle.filename.specs.declared.Fields.{Fields}
 use Rattle.filename.specs.declared.Name.{Name}
-use Rattle.filename.specs.Name.{plain, nodeRight, fieldsTests, fieldsRight, privateRight, right, width, decimal, delimiter, closing, privatePart, spelled}
-use Rattle.filename.specs.Decimal.{digits-length}
+use Rattle.filename.specs.Name.{plain, nodeRight, fieldsTests, fieldsRight, privateRight, right, delimiter, closing, privatePart, spelled}
+use Rattle.numerals.specs.Decimal.{width, decimal, digits-length}
 use Rattle.filename.specs.Writing.{after, answered, verdict, written, writeOf}
 use Rattle.filename.specs.Reading.{nodeLength, countPlace, countLength, closingPlace, valueAt, fieldsFrom, fieldsOf, nodeOf, privateOf, same, named, noName, judged, readOf}
 

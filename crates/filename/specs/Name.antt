@@ -7,10 +7,11 @@
 -- every month. The sign is a field: +0000 and -0000 are different names. Assumes nothing.
 use mathlib.Core.Bool.{Bool, true, cond, _&&_, _||_}
 use mathlib.Core.List.{List, [], _∷_, _++_}
-use Prim.Native.Nat.{ℕ, zero, suc, _+_, _/_, _%_, _^_}
-use lib.Dec.{leb, ltb, eqb}
+use Prim.Native.Nat.{ℕ, zero, suc}
+use lib.Dec.{leb, eqb}
 use lib.ListN.{length, getD}
 use Rattle.refusals.specs.Tests.{allOf}
+use Rattle.numerals.specs.Decimal.{digits, decimal}
 use Rattle.filename.specs.declared.Fields.{Fields}
 
 -- an ASCII letter or digit: 0 to 9, A to Z, a to z
@@ -54,23 +55,6 @@ privateRight has private =
 
 unfoldable pub right : Fields → List ℕ → List ℕ → Bool
 right f node private = nodeRight node && fieldsRight f && privateRight (f .has) private
-
--- the w decimal digits of n, most significant first; n is taken modulo 10 ^ w
-abbrev pub digits : ℕ → ℕ → List ℕ
-digits zero n = []
-digits (suc w) n = (48 + n / 10 ^ w % 10) ∷ digits w n
-
--- how many digits n has, where it has at most w + 1
-abbrev pub widthTo : ℕ → ℕ → ℕ
-widthTo zero n = 1
-widthTo (suc w) n = cond (ltb n (10 ^ suc w)) (widthTo w n) (suc (suc w))
-
--- a number of up to ten digits, without leading zeros
-abbrev pub width : ℕ → ℕ
-width n = widthTo 9 n
-
-abbrev pub decimal : ℕ → List ℕ
-decimal n = digits (width n) n
 
 -- underscore, minus, underscore
 abbrev pub delimiter : List ℕ

@@ -13,8 +13,9 @@ use lib.Seq.{getD-append-add, getD-at, take-at, drop-append-add}
 use borrow.Author.Tests.{eq-eqb, ne-eqb, eqb-true, leb-true, lt-ltb, le-ltb}
 use Rattle.refusals.specs.Tests.{both, each}
 use Rattle.filename.specs.declared.Fields.{Fields}
-use Rattle.filename.specs.Name.{letterOrDigit, plain, fieldsTests, fieldsRight, privateRight, right, digits, width, decimal, delimiter, signOctet, closing, privatePart, spelled}
-use Rattle.filename.specs.Decimal.{digits-length, width-holds, width-most, value-digits}
+use Rattle.filename.specs.Name.{letterOrDigit, plain, fieldsTests, fieldsRight, privateRight, right, delimiter, signOctet, closing, privatePart, spelled}
+use Rattle.numerals.specs.Decimal.{digits, width, decimal, digits-length, width-holds, width-most}
+use Rattle.filename.specs.Decimal.{value-digits}
 use Rattle.filename.specs.Cases.{right-node, right-fields, right-private, node-short}
 use Rattle.filename.specs.Reading.{before, valueAt, nodeLength, countPlace, countLength, closingPlace, fieldsOf, nodeOf, privateOf}
 

@@ -1,69 +1,13 @@
 // The name of right fields (000, 6.2), part behind part.
 use crate::Fields;
+use numerals::digit;
+use numerals::put_decimal;
+use numerals::width_of;
 ghost use mathlib.Core.Path.{_≡_};
-ghost use Prim.Native.Nat.{_+_, _%_, _≤_};
+ghost use Prim.Native.Nat.{_+_, _≤_};
 ghost use lib.ListN.{length};
 ghost use Rattle.octets.specs.Splice.{splice};
-ghost use Rattle.filename.specs.Name.{digits, width, decimal, signOctet, closing, privatePart, spelled};
-
-// The last decimal digit of a number.
-fn digit(n: u32) -> u8
-    ensures { λ r. ⌜ r ≡ 48 + n % 10 ⌝ }
-{
-    48 + (n % 10) as u8
-}
-
-// A number's ten digits, leading zeros too.
-fn ten_digits(n: u32) -> [u8; 10]
-    ensures { λ r. ⌜ r ≡ digits 10 n ⌝ }
-{
-    [
-        digit(n / 1000000000),
-        digit(n / 100000000),
-        digit(n / 10000000),
-        digit(n / 1000000),
-        digit(n / 100000),
-        digit(n / 10000),
-        digit(n / 1000),
-        digit(n / 100),
-        digit(n / 10),
-        digit(n / 1),
-    ]
-}
-
-// How many digits a number has.
-pub fn width_of(n: u32) -> usize
-    ensures { λ r. ⌜ (r ≡ width n) × (1 ≤ r) × (r ≤ 10) ⌝ }
-{
-    if n < 10 {
-        return 1;
-    }
-    if n < 100 {
-        return 2;
-    }
-    if n < 1000 {
-        return 3;
-    }
-    if n < 10000 {
-        return 4;
-    }
-    if n < 100000 {
-        return 5;
-    }
-    if n < 1000000 {
-        return 6;
-    }
-    if n < 10000000 {
-        return 7;
-    }
-    if n < 100000000 {
-        return 8;
-    }
-    if n < 1000000000 {
-        return 9;
-    }
-    10
-}
+ghost use Rattle.filename.specs.Name.{signOctet, closing, privatePart, spelled};
 
 fn sign_octet(sign: u32) -> u8
     ensures { λ r. ⌜ r ≡ signOctet sign ⌝ }
@@ -98,16 +42,6 @@ fn closing_of(f: Fields) -> [u8; 21]
         digit(f.dev_minute / 10),
         digit(f.dev_minute / 1),
     ]
-}
-
-// Writes a number without leading zeros, from `at` on.
-fn put_decimal(n: u32, output: &mut [u8], at: usize)
-    requires { ⌜ at + width n ≤ length (now output) ⌝ }
-    ensures { λ _. ⌜ now (output .exit) ≡ splice (now (output .entry)) at (decimal n) ⌝ }
-{
-    let ten = ten_digits(n);
-    let leading = 10 - width_of(n);
-    octets::copy(output, at, &ten[leading..10]);
 }
 
 // Writes the private part with its point, where it is there.

@@ -1,6 +1,6 @@
 // The lines that the gate prints: an answer, what came of a packet, the files that were closed, the state.
 ghost use mathlib.Core.Path.{_≡_};
-ghost use Prim.Native.Nat.{_+_, _≤_, _<_};
+ghost use Prim.Native.Nat.{_+_, _≤_};
 ghost use lib.ListN.{length};
 use events::Answer;
 use state::Route;
@@ -10,6 +10,7 @@ use textlines::put;
 use textlines::put_all;
 use textlines::put_end;
 use textlines::put_field;
+use textlines::put_octets;
 
 fn put_fields(page: &mut [u8], p: Printer, m: u64, n: u64) -> Printer {
     let q = put_field(page, p, m);
@@ -20,29 +21,6 @@ fn put_fields(page: &mut [u8], p: Printer, m: u64, n: u64) -> Printer {
 fn put_start(page: &mut [u8], p: Printer, letter: u8, m: u64, n: u64) -> Printer {
     let q = put(page, p, letter);
     put_fields(page, q, m, n)
-}
-
-fn hex_digit(n: u8) -> u8
-    requires { ⌜ n < 16 ⌝ }
-{
-    if n < 10 { 48 + n } else { 55 + n }
-}
-
-fn put_octet(page: &mut [u8], p: Printer, octet: u8) -> Printer {
-    let high = hex_digit(octet / 16);
-    let low = hex_digit(octet % 16);
-    let q = put(page, p, high);
-    put(page, q, low)
-}
-
-fn put_octets(page: &mut [u8], p: Printer, octets: &[u8]) -> Printer {
-    let mut q = p;
-    let mut i: usize = 0;
-    while i < octets.len() {
-        q = put_octet(page, q, octets[i]);
-        i += 1;
-    }
-    q
 }
 
 // The line of settings: the refusal and the number of routes.

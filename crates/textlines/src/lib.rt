@@ -7,12 +7,17 @@ mod words;
 
 pub use lines::Source;
 pub use lines::Taken;
+pub use lines::has_line;
+pub use lines::refill;
 pub use lines::take_line;
 pub use page::Printer;
+pub use page::flush;
 pub use page::put;
 pub use page::put_all;
 pub use page::put_end;
 pub use page::put_field;
+pub use page::put_number;
+pub use page::put_octets;
 pub use parts::part;
 pub use turns::LINES;
 pub use turns::finish;

@@ -1,4 +1,6 @@
 // The script's lines, taken from standard input by way of a buffer.
+use crate::parts::find;
+use crate::parts::part;
 ghost use Prim.Native.Nat.{_≤_};
 ghost use lib.ListN.{length};
 use libc::STDIN_FILENO;
@@ -24,7 +26,7 @@ pub enum Taken {
 }
 
 // Fills the buffer anew and answers how many octets came: none at the end of the input.
-fn refill(input: &mut [u8]) -> usize
+pub fn refill(input: &mut [u8]) -> usize
     ensures { λ r. ⌜ r ≤ length (now (input .exit)) ⌝ }
 {
     let got = libc::read(STDIN_FILENO, input);
@@ -82,6 +84,15 @@ pub fn take_line(input: &mut [u8], line: &mut [u8], s: Source) -> Taken {
         n += 1;
     }
     full_line(input, n, source)
+}
+
+// Whether a whole line is left of the buffer, so that it is taken without waiting for more of the input.
+pub fn has_line(input: &[u8], s: Source) -> bool {
+    if s.end <= s.at {
+        return false;
+    }
+    let rest = part(input, s.at, s.end - s.at);
+    find(rest, 0, b'\n') < rest.len()
 }
 
 // The end of the input behind `n` octets with no LF.

@@ -1,6 +1,7 @@
 // The lines that are printed. They are collected on a page, which is written to standard output when it is full.
 use crate::parts::part;
 use libc::STDOUT_FILENO;
+use numerals::hex_digit;
 
 // How many octets stand on the page, and whether every page so far was written.
 pub struct Printer {
@@ -52,12 +53,34 @@ pub fn put_all(page: &mut [u8], p: Printer, text: &[u8]) -> Printer {
     q
 }
 
-// A number behind a space.
-pub fn put_field(page: &mut [u8], p: Printer, n: u64) -> Printer {
+pub fn put_number(page: &mut [u8], p: Printer, n: u64) -> Printer {
     let mut text = [0u8; 20];
     let k = io::decimal(n, &mut text);
+    put_all(page, p, &text[..k])
+}
+
+// A number behind a space.
+pub fn put_field(page: &mut [u8], p: Printer, n: u64) -> Printer {
     let q = put(page, p, b' ');
-    put_all(page, q, &text[..k])
+    put_number(page, q, n)
+}
+
+fn put_octet(page: &mut [u8], p: Printer, octet: u8) -> Printer {
+    let high = hex_digit(octet / 16);
+    let low = hex_digit(octet % 16);
+    let q = put(page, p, high);
+    put(page, q, low)
+}
+
+// Octets as their digits, two each.
+pub fn put_octets(page: &mut [u8], p: Printer, octets: &[u8]) -> Printer {
+    let mut q = p;
+    let mut i: usize = 0;
+    while i < octets.len() {
+        q = put_octet(page, q, octets[i]);
+        i += 1;
+    }
+    q
 }
 
 pub fn put_end(page: &mut [u8], p: Printer) -> Printer {

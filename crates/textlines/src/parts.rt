@@ -1,4 +1,4 @@
-// A part of a slice that may be asked for with any numbers.
+// A part of a slice, and a place in it, that may be asked for with any numbers.
 ghost use Prim.Native.Nat.{_-_, _≤_};
 ghost use lib.ListN.{length};
 
@@ -13,4 +13,16 @@ pub fn part(s: &[u8], from: usize, count: usize) -> &[u8]
         }
     }
     &s[..0]
+}
+
+// Where this octet stands first from `start` on, or the end.
+pub fn find(text: &[u8], start: usize, octet: u8) -> usize {
+    let mut i = start;
+    while i < text.len() {
+        if text[i] == octet {
+            return i;
+        }
+        i += 1;
+    }
+    i
 }

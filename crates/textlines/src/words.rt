@@ -1,4 +1,5 @@
 // The words of a line, each behind one space: decimal numbers, and octets as they are.
+use crate::parts::find;
 ghost use Prim.Native.Nat.{_≤_};
 
 // Where the word behind a wrong one stands: nothing is read from here on, and no line ends here.
@@ -86,7 +87,7 @@ pub fn number_at(line: &[u8], at: usize) -> Number {
 // The word behind the space at `at`, up to the next space or the line's end. A word has an octet at least.
 pub fn word_at(line: &[u8], at: usize) -> Word {
     let start = behind_space(line, at);
-    let next = next_space(line, start);
+    let next = find(line, start, b' ');
     if start == next {
         return Word {
             start: 0,
@@ -97,16 +98,4 @@ pub fn word_at(line: &[u8], at: usize) -> Word {
         start: start,
         next: next,
     }
-}
-
-// The first space from `start` on, or the line's end.
-fn next_space(line: &[u8], start: usize) -> usize {
-    let mut i = start;
-    while i < line.len() {
-        if line[i] == b' ' {
-            return i;
-        }
-        i += 1;
-    }
-    i
 }

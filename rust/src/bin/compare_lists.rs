@@ -14,7 +14,7 @@ use leveehum::draft::Draft;
 use leveehum::fields::Release;
 use leveehum::files::FAMILIES;
 use leveehum::gate;
-use leveehum::program::{contents, lessons, proved_program, run_proved};
+use leveehum::program::{contents, lessons, proved_program, run_proved, tell};
 use leveehum::random::Random;
 use leveehum::scripts::hexadecimal;
 use leveehum::second;
@@ -43,16 +43,7 @@ fn main() -> ExitCode {
         ["--lessons", folder] => compare_lessons(Path::new(folder)),
         _ => Err("usage: compare_lists [--lessons FOLDER]".to_owned()),
     };
-    match result {
-        Ok(counted) => {
-            println!("{counted}, no difference");
-            ExitCode::SUCCESS
-        }
-        Err(what) => {
-            println!("FAILED: {what}");
-            ExitCode::FAILURE
-        }
-    }
+    tell(result)
 }
 
 /// Files of every family, and right ones at the programs' limit.

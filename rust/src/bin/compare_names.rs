@@ -9,7 +9,7 @@
 
 use leveehum::cdrname;
 use leveehum::names;
-use leveehum::program::{contents, ended_lines, lessons, proved_program, run_proved};
+use leveehum::program::{contents, ended_lines, lessons, proved_program, run_proved, tell};
 use leveehum::random::Random;
 use std::env;
 use std::path::Path;
@@ -34,16 +34,7 @@ fn main() -> ExitCode {
         ["--lessons", folder] => compare_lessons(Path::new(folder), proved),
         _ => Err("usage: compare_names [--lessons FOLDER]".to_owned()),
     };
-    match result {
-        Ok(counted) => {
-            println!("{counted}, no difference");
-            ExitCode::SUCCESS
-        }
-        Err(what) => {
-            println!("FAILED: {what}");
-            ExitCode::FAILURE
-        }
-    }
+    tell(result)
 }
 
 /// The first answer in which two outputs differ, and the line that it answers.

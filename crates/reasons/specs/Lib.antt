@@ -1,0 +1,4 @@
+pub mod Rows
+pub mod Closure
+pub mod Refusals
+pub mod Examples

@@ -1,0 +1,7 @@
+pub mod Text
+pub mod Laid
+pub mod Numbered
+pub mod Lost
+pub mod Told
+pub mod Private
+pub mod Examples
