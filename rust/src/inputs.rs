@@ -1,11 +1,11 @@
 //! The inputs on which the two writers are compared: every combination of faults, so that the order
-//! of the writer's refusals shows.
+//! of the writer's refusals shows, and those about the length of the longest file.
 
 use crate::dates;
 use crate::draft::Draft;
 use crate::fields::{Header, Release, Timestamp, EMPTY, NONE, OCTETS};
 use crate::random::Random;
-use crate::second::{EXTENDED, LONGEST_FILE};
+use crate::second::{EXTENDED, FIXED, LONGEST_FILE};
 
 /// The writer's refusals in their order. A combination of faults is a set of places in this list.
 pub const REFUSALS: [u8; 6] = [2, 10, 11, 13, 8, 17];
@@ -21,6 +21,47 @@ pub struct Input {
     pub room: usize,
     /// The first fault's refusal, or 0.
     pub answer: u8,
+}
+
+/// An input about the length of the longest file, of records of four octets that are all alike: what
+/// `WriterLimit` of `edge_table` says of every output is run here on one.
+pub struct Limit {
+    pub name: &'static str,
+    filter: usize,
+    records: usize,
+    /// Whether high is not the records' release.
+    misstated: bool,
+    room: usize,
+    answer: u8,
+}
+
+#[rustfmt::skip]
+pub const LIMITS: [Limit; 7] = [
+    Limit { name: "one record fewer", filter: 0, records: 262_131, misstated: false, room: 1_048_574, answer: 0 },
+    Limit { name: "17 alone", filter: 0, records: 262_131, misstated: false, room: 1_048_573, answer: 17 },
+    Limit { name: "the longest", filter: 2, records: 262_131, misstated: false, room: 1_048_576, answer: 0 },
+    Limit { name: "8 by an octet", filter: 3, records: 262_131, misstated: false, room: 1_048_577, answer: 8 },
+    Limit { name: "8 by a record", filter: 0, records: 262_132, misstated: false, room: 1_048_578, answer: 8 },
+    Limit { name: "8 before 17", filter: 0, records: 262_132, misstated: false, room: 1_048_577, answer: 8 },
+    Limit { name: "13 before 8", filter: 0, records: 262_132, misstated: true, room: 1_048_578, answer: 13 },
+];
+
+impl Limit {
+    /// The input: release 4, version 3, format 1, TS 15, and no bodies.
+    pub fn input(&self, random: &mut Random) -> Input {
+        let release = Release {
+            release: 4,
+            extension: 0,
+            version: 3,
+        };
+        let mut draft = Draft::of_length(random, FIXED, release, 0);
+        draft.filter = random.octets(self.filter);
+        draft.records = [0x00, 0x00, 0x83, 0x2F].repeat(self.records);
+        if self.misstated {
+            draft.header.high.version = 4;
+        }
+        Input::of(draft, self.room, self.answer)
+    }
 }
 
 /// Whether a combination has the fault of this refusal.
@@ -213,21 +254,34 @@ mod tests {
     use super::*;
     use crate::second;
 
+    /// The second writer's refusal, or 0.
+    fn answer(given: &Input) -> u8 {
+        let mut output = vec![0; given.room];
+        let answer = second::write(
+            &given.header,
+            &given.filter,
+            &given.private,
+            &given.records,
+            &mut output,
+        );
+        answer.map_or_else(|(refusal, _)| refusal, |_| 0)
+    }
+
     #[test]
     fn each_combination_is_answered_by_its_first_fault() {
         let mut random = Random::new(4);
         for combination in (0..COMBINATIONS).chain(0..COMBINATIONS) {
             let given = input(&mut random, combination);
-            let mut output = vec![0; given.room];
-            let answer = second::write(
-                &given.header,
-                &given.filter,
-                &given.private,
-                &given.records,
-                &mut output,
-            );
-            let number = answer.map_or_else(|(refusal, _)| refusal, |_| 0);
-            assert_eq!(number, given.answer, "combination {combination}");
+            assert_eq!(answer(&given), given.answer, "combination {combination}");
+        }
+    }
+
+    #[test]
+    fn each_limit_is_answered_by_its_first_fault() {
+        let mut random = Random::new(5);
+        for limit in &LIMITS {
+            let given = limit.input(&mut random);
+            assert_eq!(answer(&given), given.answer, "{}", limit.name);
         }
     }
 }

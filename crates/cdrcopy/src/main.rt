@@ -3,14 +3,13 @@
 use libc::STDIN_FILENO;
 use libc::STDOUT_FILENO;
 use writer::Written;
-ghost use mathlib.Core.Path.{_≡_};
 ghost use Rattle.writer.specs.Writer.{after};
-ghost use Rattle.cdrcopy.specs.Rewrite.{rewriteOf};
+ghost use Rattle.cdrcopy.specs.Copy.{Rewrites};
 
-// Writes over the start of the output what the reader hands back of a file. The answer is the writer's, or the reader's refusal,
-// which leaves the output unchanged.
+// Writes over the start of the output what the reader hands back of a file: the same octets, if the output is long enough. The answer is
+// the writer's, or the reader's refusal, which leaves the output unchanged.
 fn rewrite(file: &[u8], output: &mut [u8]) -> Written
-    ensures { λ r. ⌜ after r (now (output .exit)) ≡ rewriteOf (now (file .entry)) (now (output .entry)) ⌝ }
+    ensures { λ r. ⌜ Rewrites (now (file .entry)) (now (output .entry)) (after r (now (output .exit))) ⌝ }
 {
     let c = reader::read(file);
     if c.refusal != 0 {

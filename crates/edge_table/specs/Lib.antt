@@ -2,8 +2,13 @@ pub mod Manager
 pub mod EdgeTable
 pub mod Shared
 pub mod Layout
+pub mod Indicators
 pub mod LossCounts
 pub mod Extensions
 pub mod SetTimes
 pub mod Comparisons
 pub mod Packets
+pub mod Orders
+pub mod Ranges
+pub mod States
+pub mod EightRoutes

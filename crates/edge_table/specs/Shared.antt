@@ -1,8 +1,9 @@
 -- What the manager's definitions and the ledger share, held apart from both by evaluation: where each setting stands in the
 -- octets, when a filter fits, which one is chosen and what a header carries of it, the loss rule, which of two releases is later and
--- when two are the same, the record of an arrival, which refusal is the first, and the form of an answer (LossCounts has the octets of the loss counts). A mistake in one of these
+-- when two are the same, the record of an arrival, which refusal is the first, and the form of an answer. LossCounts has the octets of the loss
+-- counts, Indicators the indicator, Packets what a packet's octets say, EdgeTable sizes, layout and local time. A mistake in one of these
 -- would stand on both sides of demand 3 and prove (document 01, Settings; Record header; Routing and loss; Refusals). Then each
--- condition of refusals 5 and 7 with its neighbour that passes, which the ledger states in words of its own. Assumes nothing.
+-- condition of refusals 5 and 7 with its neighbour that passes, which the ledger states in words of its own.
 use mathlib.Core.Path.{_≡_, refl}
 use mathlib.Core.Bool.{true, false}
 use mathlib.Core.List.{List, [], _∷_, _++_}
@@ -26,8 +27,8 @@ use Rattle.events.specs.Receive.{recordOf}
 use Rattle.ledger.specs.Ledger.{none, Line, Ledger}
 use Rattle.ledger.specs.Run.{ledgerFrom}
 
--- Settings of two routes with set times in which no two fields of one width are equal, kinds apart, and none is 0 but a flag. The other flag can
--- only be 1.
+-- Settings of two routes with set times in which no two fields of one width are equal and none is 0, but for the kinds, the flags (1 and 0) and the
+-- route numbers of the set times (0, 0 and 1), which have no other values to choose from.
 abbrev address : List ℕ
 address = 0xA0 ∷ 0xA1 ∷ 0xA2 ∷ 0xA3 ∷ 0xA4 ∷ 0xA5 ∷ 0xA6 ∷ 0xA7 ∷ 0xA8 ∷ 0xA9 ∷ 0xAA ∷ 0xAB ∷ 0xAC ∷ 0xAD ∷ 0xAE ∷ 0xAF ∷ []
 

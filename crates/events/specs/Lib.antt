@@ -8,5 +8,7 @@ pub mod Cases
 pub mod Held
 pub mod Unchanged
 pub mod Work
+pub mod Closes
 pub mod Right
 pub mod Stays
+pub mod SameWork

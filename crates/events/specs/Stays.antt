@@ -1,5 +1,5 @@
 -- RECEIVE keeps any state within its bounds there (document 01, Refusals 18; document 02, ask 8), whether or not events reach it: so a state that was judged
--- once stays judged through a packet. Its regions stay where they are, and the store keeps its length. Assumes nothing.
+-- once stays judged through a packet. Its settings stay what they are, its regions where they are, and the store keeps its length.
 use mathlib.Core.Path.{_≡_, refl, sym, ap, _∙_, subst}
 use mathlib.Core.Bool.{Bool, true, false, cond, not, _&&_, _||_, false≢true, true≢false}
 use mathlib.Core.List.{List, [], _∷_}
@@ -180,6 +180,8 @@ module _ (m : Manager) where
 -- What an event leaves of a state within its bounds and of a store.
 pub record Stays (m : Manager) (store : List ℕ) (x : After) : Type 0 where
   pub right : stateRight (x .outcome .manager) ≡ true
+  pub count : x .outcome .manager .count ≡ m .count
+  pub settings : (j : ℕ) → settingsAt (x .outcome .manager) j ≡ settingsAt m j
   pub routes : length (x .outcome .manager .routes) ≡ length (m .routes)
   pub same : regions (x .outcome .manager) ≡ regions m
   pub long : length (x .store) ≡ length store
@@ -249,6 +251,8 @@ module _ (m : Manager) (store output : List ℕ) (time : ℕ) (a : Arrival) (key
     unrouted-stays =
         record {
           right = right-within (notedState m t) (noted-within m w there t later most);
+          count = refl;
+          settings = λ j. noted-settings m (m .count) j there;
           routes = noted-length m (m .count);
           same = base-kept m (notedState m t) (λ j. noted-settings m (m .count) j there) (min (m .count) 8);
           long = refl;
@@ -279,6 +283,8 @@ module _ (m : Manager) (store output : List ℕ) (time : ℕ) (a : Arrival) (key
       changed-stays q s v x p l =
           record {
             right = ap stateRight p ∙ right-within (withTime (withRoute m i q) t) (put-within m w there t later most i q inside s v);
+            count = ap (λ (n : Manager). n .count) p;
+            settings = λ j. ap (λ (n : Manager). settingsAt n j) p ∙ settings-kept m i q (omega (arith, inside, there)) s j;
             routes = ap (λ (n : Manager). length (n .routes)) p ∙ length-set (m .routes) i q;
             same = ap regions p ∙ put-base m w there t later most i q inside s v (min (m .count) 8);
             long = l;
@@ -363,4 +369,4 @@ module _ (m : Manager) (store output : List ℕ) (time : ℕ) (a : Arrival) (key
           let p4 = passed 3 (ltb 52595999 time) ((5 when wrongFields a (length key)) ∷ rest) (p16 .1) in
           let p5 = passed 4 (wrongFields a (length key)) rest (p4 .1) in
           taken-stays (ltb-false (length store) (regions m) (p16 .0)) (ltb-false 52595999 time (p4 .0)) (p5 .0)
-      go (suc k) e = record { right = right; routes = refl; same = refl; long = refl }
+      go (suc k) e = record { right = right; count = refl; settings = λ j. refl; routes = refl; same = refl; long = refl }

@@ -1,27 +1,43 @@
--- What one RECEIVE compares at most (document 02, ask 7): over any state, store, output and arguments, accepted or refused, the octets of
--- filters in its answer are at most the number of routes times the key's length; a refusal has 0. Assumes nothing.
-use mathlib.Core.Path.{_≡_, refl}
+-- What one RECEIVE compares and what it writes, whatever the state, the store, the output and the arguments are. `receive-compared` is what document 02, ask 7
+-- says of the octets of filters in the answer of the call, on any words: a refused RECEIVE has 0, one with mark 2 has 0, every other has the
+-- count of its key (state, Compared), and none has more than the number of routes times the key's length. `receive-room`: the octets that an
+-- accepted RECEIVE writes are no more than those of the output that it was lent (document 01, Refusals 17).
+use mathlib.Core.Path.{_≡_, refl, ap, _∙_}
 use mathlib.Core.Bool.{Bool, true, false, cond, not, _&&_}
 use mathlib.Core.List.{List, [], _∷_}
 use Prim.Native.Nat.{ℕ, zero, suc, _*_, _≤_}
 use native.Mathlib.Omega.{arith}
 use lib.Dec.{ltb, eqb}
 use lib.ListN.{length}
-use borrow.Author.Tests.{ltb-false}
+use borrow.Author.Tests.{ltb-false, eq-eqb, ne-eqb}
 use Rattle.refusals.specs.Refusal.{Rule, _when_, first, passed}
 use Rattle.state.specs.Manager.{Manager}
 use Rattle.state.specs.Manager.{routeAt, regions, effective}
 use Rattle.state.specs.Bounds.{stateRight}
 use Rattle.state.specs.Compared.{comparedFor, compared-most}
+use Rattle.words.specs.Words.{managerIn}
+use Rattle.events.specs.declared.Answer.{Answer}
 use Rattle.events.specs.declared.Arrival.{Arrival}
 use Rattle.events.specs.Rules.{wrongFields, routedTo, comparedTo}
-use Rattle.events.specs.Events.{After, settled}
+use Rattle.events.specs.Events.{After, refusalOf, settled}
 use Rattle.events.specs.Receive.{isLost, placedSize, countersFull, lostAt, placedAt, unrouted, needed, receiveRules, taken, receiveOf}
+use Rattle.events.specs.Lent.{worded, unlike, receiveOn}
 
-abbrev pub comparedIn : After → ℕ
-comparedIn x = x .outcome .answer .compared
+-- The answer to a RECEIVE of this arrival and key, on this state, has the count of compared octets that ask 7 wants.
+pub record ComparedRight (m : Manager) (a : Arrival) (key : List ℕ) (answer : Answer) : Type 0 where
+  -- refused, whatever the number
+  pub refused : (answer .refusal ≡ 0 → ⊥) → answer .compared ≡ 0
+  -- mark 2: nothing is to be trusted, and nothing is compared
+  pub marked : a .mark ≡ 2 → answer .compared ≡ 0
+  -- every other
+  pub counted : answer .refusal ≡ 0 → (a .mark ≡ 2 → ⊥) → answer .compared ≡ comparedFor m key
+  -- what a record costs at most
+  pub most : answer .compared ≤ m .count * length key
 
-module _ (m : Manager) (store output : List ℕ) (time : ℕ) (a : Arrival) (key body : List ℕ) where
+module _ (m : Manager) (a : Arrival) (key : List ℕ) where
+  refused-right : (n needed : ℕ) → ComparedRight m a key (refusalOf (suc n) needed)
+  refused-right n needed = record { refused = λ h. refl; marked = λ two. refl; counted = λ z two. absurd (omega arith); most = omega arith }
+
   to-most : comparedTo m a key ≤ m .count * length key
   to-most = go (eqb (a .mark) 2)
     where
@@ -29,29 +45,68 @@ module _ (m : Manager) (store output : List ℕ) (time : ℕ) (a : Arrival) (key
       go true = omega arith
       go false = compared-most m key
 
+  counted-right : (x : Answer) → (x .refusal ≡ 0) × (x .compared ≡ comparedTo m a key) → ComparedRight m a key x
+  counted-right x e =
+      record {
+        refused = λ h. absurd (h (e .0));
+        marked = λ two. e .1 ∙ ap (λ (b : Bool). cond b 0 (comparedFor m key)) (eq-eqb (a .mark) 2 two);
+        counted = λ z two. e .1 ∙ ap (λ (b : Bool). cond b 0 (comparedFor m key)) (ne-eqb (a .mark) 2 two);
+        most = omega (arith, e .1, to-most);
+      }
+
+module _ (m : Manager) (store output : List ℕ) (time : ℕ) (a : Arrival) (key body : List ℕ) where
+  abbrev done : After
+  done = taken m store output (effective m time) a key body
+
   -- unrouted, lost or placed: the count is that of the key
-  taken-is : comparedIn (taken m store output (effective m time) a key body) ≡ comparedTo m a key
+  taken-is : (done .outcome .answer .refusal ≡ 0) × (done .outcome .answer .compared ≡ comparedTo m a key)
   taken-is = go (routedTo m a key .found) (isLost m a (routedTo m a key .at) (length body))
     where
-      go : (found lost : Bool)
-          → comparedIn
-          (cond found
+      by : (found lost : Bool) → After
+      by found lost =
+          cond found
           (cond lost
           (lostAt m store output (effective m time) (routedTo m a key .at) (comparedTo m a key))
           (placedAt m store output (effective m time) a body (routedTo m a key .at) (comparedTo m a key)))
-          (unrouted m store output (effective m time) (comparedTo m a key)))
-          ≡ comparedTo m a key
-      go true true = refl
-      go true false = refl
-      go false lost = refl
+          (unrouted m store output (effective m time) (comparedTo m a key))
 
-  pub receive-most : comparedIn (receiveOf m store output time a key body) ≤ m .count * length key
+      go : (found lost : Bool) → (by found lost .outcome .answer .refusal ≡ 0) × (by found lost .outcome .answer .compared ≡ comparedTo m a key)
+      go true true = (refl, refl)
+      go true false = (refl, refl)
+      go false lost = (refl, refl)
+
+  -- the refusal in its answer is the first rule's that applies
+  pub receive-first : receiveOf m store output time a key body .outcome .answer .refusal ≡ first (receiveRules m (length store) (length output) time a key (length body))
   unfolding receiveOf
-  receive-most = go (first (receiveRules m (length store) (length output) time a key (length body)))
+  receive-first = go (first (receiveRules m (length store) (length output) time a key (length body)))
     where
-      go : (n : ℕ) → comparedIn (settled n (needed m a key (length body) (effective m time)) m store output (taken m store output (effective m time) a key body)) ≤ m .count * length key
-      go zero = omega (arith, taken-is, to-most)
-      go (suc n) = omega arith
+      go : (n : ℕ) → settled n (needed m a key (length body) (effective m time)) m store output done .outcome .answer .refusal ≡ n
+      go zero = taken-is .0
+      go (suc n) = refl
+
+  -- on a state
+  state-compared : ComparedRight m a key (receiveOf m store output time a key body .outcome .answer)
+  unfolding receiveOf
+  state-compared = go (first (receiveRules m (length store) (length output) time a key (length body)))
+    where
+      go : (n : ℕ) → ComparedRight m a key (settled n (needed m a key (length body) (effective m time)) m store output done .outcome .answer)
+      go zero = counted-right m a key (done .outcome .answer) taken-is
+      go (suc n) = refused-right m a key n (needed m a key (length body) (effective m time))
+
+  -- the bound alone
+  pub receive-most : receiveOf m store output time a key body .outcome .answer .compared ≤ m .count * length key
+  receive-most = state-compared .most
+
+-- Of the call: on any words. Words of another number than a state has get 18, a refusal like the others.
+pub receive-compared : (words store output : List ℕ) (time : ℕ) (a : Arrival) (key body : List ℕ)
+    → ComparedRight (managerIn words) a key (receiveOn words store output time a key body .answer)
+unfolding receiveOn
+receive-compared words store output time a key body = go (eqb (length words) 360)
+  where
+    go : (b : Bool)
+        → ComparedRight (managerIn words) a key (cond b (worded (receiveOf (managerIn words) store output time a key body)) (unlike words store output) .answer)
+    go true = state-compared (managerIn words) store output time a key body
+    go false = refused-right (managerIn words) a key 17 0
 
 -- An accepted RECEIVE wrote no more than the output that it was lent: 17 does not apply.
 module _ (m : Manager) (store output : List ℕ) (time : ℕ) (a : Arrival) (key body : List ℕ) where

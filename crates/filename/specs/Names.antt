@@ -1,12 +1,21 @@
 -- FILE NAMES (document 02, ask 1), stated alone: read this file without its proof (Proof.antt).
 --
--- In plain words. The reader accepts octets exactly when they are the spelling of a right set of fields, and hands back that
--- set; any other octets get 20 and zeros. Two different sets of right fields never share a name. What the writer wrote is read
--- back, and the octets behind the name stay; what the reader accepts, the writer writes again, octet for octet. The writer
--- refuses fields that are not right with 20, then an output shorter than the name with 21, and then leaves the output as it was.
+-- In plain words. A set of fields is the numbers, the node identifier and the private part; the name of a right set is its spelling. Of any
+-- octets, sets of fields and outputs each clause of `Names` says:
+--
+-- `accepted`: the reader accepts octets exactly when they are the name of a right set of fields.
+-- `refused`: any other octets get refusal 20, and zeros for the fields and lengths.
+-- `handed-back`: the set that the reader hands back of octets that it accepts is right, and its name is these octets.
+-- `only-these`: of the name of a right set the reader hands back this set, so that no other has the name.
+-- `apart`: two right sets with one name are the same set.
+-- `written`: the writer puts the name of a right set over the start of an output that is long enough, answers the name's length, and the octets behind it stay.
+-- `wrong`: a set that is not right gets refusal 20, whatever the output's length, and the output stays.
+-- `too-long`: a right set with a name longer than the output gets refusal 21, and the output stays.
+-- `written-read`: the reader accepts what the writer wrote, and hands back the set that was written.
+-- `read-written`: what the reader accepts, the writer writes again into an output that is long enough, octet for octet, and the octets behind it stay.
 --
 -- `readOf` and `writeOf` are the definitions that the contracts of filename::read and filename::write cite, over every input;
--- `right` and `spelled` (Name) are the grammar. Assumes nothing.
+-- `right` and `spelled` (Name) are the grammar.
 use mathlib.Core.Path.{_≡_}
 use mathlib.Core.Bool.{true}
 use mathlib.Core.Logic.{_↔_}

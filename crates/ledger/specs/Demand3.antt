@@ -1,26 +1,32 @@
 -- DEMAND 3 of document 01, stated alone: read this file without its proof (Proof.antt).
 --
--- In plain words. Take any settings octets that are accepted, with set times of day (document 02, ask 6) or without, a store of any
--- length and content, and any list that mixes OPEN, CLOSE, TICK and RECEIVE with packets of records (document 02, ask 8), refused ones
--- included and packets that stop half way, with any clock and any output lent to each. Run the manager on the list, each call on the
--- words of the state that the one before left, and keep the ledger of document 01 beside it, which is fed the settings, the store's
--- length and each call's arguments and output length, and nothing of the manager. Then all that is said is the ledger's: every answer,
--- with the octets of filters that were compared (document 02, ask 7), and of a packet the refusal that stopped it, how many records were
--- accepted, and the answer of each that was tried; 18 never comes. The outcome of an event is 3, lost, exactly when it is an accepted
--- RECEIVE, by itself or in a packet, that is routed and that the loss rule calls lost there. Each call's output keeps its length, begins
--- with the files that the ledger closes at that call, one behind another, and its other octets are as lent: all of them if none closes or
--- the call is refused. Each file closes on a configured route. For each route the records received, counted in the list by the routing
--- rule, those of packets as far as they were accepted, are those in its closed files, as the reader counts them, those in its open file,
--- as the state counts them, and those lost, counted in the list by the loss rule. The other received records stand in its closed files in
--- order of closing and then in the open file's part of the store, in order of receipt, octet for octet. Every closed file is accepted by
--- the reader, with the fields and records that the ledger gives, and its private octets are the loss counts of document 02, ask 3. For
--- each route the known losses that the reader finds in those of its closed files, and those pending in the state, are its lost records,
--- counted in the list by the loss rule; the unrouted records that it finds there, and the route's pending ones, are the unrouted records
--- of the list. Open count, loss counters and unrouted counters in the state are the ledger's; its received and lost records are those
--- counted in the list, and the accepted unrouted records of the list number the unrouted counter.
+-- Take any settings octets that are accepted, with set times of day (document 02, ask 6) or without, a store of any length and content, and
+-- any list that mixes OPEN, CLOSE, TICK and RECEIVE with packets of records (ask 8), refused ones included and packets that stop half way,
+-- with any clock and any output lent to each. Run the manager on the list, each call on the words of the state that the one before left, and
+-- keep the ledger of document 01 beside it, which is fed the settings, the store's length and each call's arguments and output length, and
+-- nothing of the manager. Then, in plain words, a line for each clause of the record `Demand3`, in its order; "of the list" means of each
+-- event that was tried, by itself or in a packet, and a route is a configured one:
+--
+-- `answered`: what is said to each call is what the ledger says: every answer, with the octets of filters that were compared (ask 7), and of a packet
+--   the refusal that stopped it, how many records were accepted, and the answer of each that was tried; 18 never comes. Each call's output keeps its
+--   length, begins with the files that the ledger closes at that call, one behind another, and its other octets are as lent: all, if it closes none.
+-- `configured`: each file closes on a configured route.
+-- `filed`: a route's closed files in the ledger are those that closed on it, in order of closing.
+-- `lost-exactly`: an event's outcome is 3, lost, exactly when it is an accepted RECEIVE that is routed and that the loss rule calls lost there.
+-- `balance`: received = closed counts + open count + lost, for each route: received and lost by the rules on the list, the closed counts as the reader reads them.
+-- `kept`: a route's received records that are not lost, in order of receipt, are those of its closed files and then right records whose octets stand in the store for its open file.
+-- `accepted`: the reader accepts every closed file and hands back the fields and records that the ledger gives.
+-- `counts`: the private octets of every closed file, as the reader hands them back, are loss counts (ask 3).
+-- `known-losses`: the known losses in a route's closed files, as the reader finds them, plus those pending in the state are as many as its lost records of the list.
+-- `unrouted-records`: the unrouted records in a route's closed files plus those pending on the route are as many as the unrouted records of the list.
+-- `counters`: the open count, the known losses and the unrouted records of each route in the state are the ledger's.
+-- `booked`: the ledger's numbers of received and of lost records of each route are those of the list.
+-- `unrouted-counter`: the state's counter of all unrouted records is the ledger's.
+-- `unrouted-listed`: and it is the number of accepted unrouted records of the list.
 --
 -- `loadedOf`, `openOn`, `closeOn`, `tickOn`, `receiveOn` and `packetOn`, of which `doneBy` and `runOf` are made, are the definitions that
--- the contracts of the calls cite; `managerIn` says what words stand for. Assumes nothing.
+-- the contracts of the calls cite; `managerIn` says what words stand for. Two facts about closings stand beside this: a RECEIVE closes at most
+-- one file (`receive-one`, events, Closes.antt), and no empty file closes with 5 or 1 (`empty-files`, EmptyFiles.antt).
 use mathlib.Core.Path.{_≡_}
 use mathlib.Core.Logic.{_↔_}
 use mathlib.Core.Bool.{Bool, true, false, cond, not, _&&_}
@@ -30,8 +36,7 @@ use lib.Dec.{eqb}
 use lib.ListN.{length, take, drop}
 use Rattle.octets.specs.Number.{Octets}
 use Rattle.octets.specs.Splice.{splice}
-use Rattle.record.specs.Record.{Record}
-use Rattle.record.specs.Walk.{records, walkOf}
+use Rattle.record.specs.Record.{Record, AllRight, recordsOctets}
 use Rattle.cdrfile.specs.File.{File, layout}
 use Rattle.counts.specs.declared.Counts.{Counts}
 use Rattle.counts.specs.Counts.{countsIn}
@@ -215,7 +220,8 @@ pub record Demand3 (words : List ℕ) (l : Ledger) (store : List ℕ) (cs : List
   -- the others stand in the files, in order, octet for octet
   pub kept : (i : ℕ) → i < managerIn words .count
       → (rs : List Record)
-      × (walkOf (standing (behind words store cs) (storeAfter words store cs) i) ≡ records rs)
+      × AllRight rs
+      × (standing (behind words store cs) (storeAfter words store cs) i ≡ recordsOctets rs)
       × (placed l i (happened words store cs) ≡ walked (closedOn i (booksOf l (length store) cs)) ++ rs)
   -- every closed file is accepted by the reader, with the fields the ledger gives
   pub accepted : (i : ℕ) → i < managerIn words .count → AllAccepted (closedOn i (booksOf l (length store) cs))

@@ -3,12 +3,14 @@
 -- are files: it holds the last time, the number of unrouted records and for each route how many records were received and lost (without
 -- bound), the next sequence number, known losses and unrouted records since its last file closed, its closed files, and its open file if
 -- any. Opening, appending, closing, ages, sizes and every refusal are stated here anew, on records. Shared with the manager's
--- definitions, and held apart from both: the places of the settings' octets (`settingsFrom`, `minutesOf`), the choice of a filter
--- (`better`) and what a header carries of it (`filterOf`), the loss rule (`lost`), the indicator, the order and sameness of releases
--- (`later`, `earlier`, `sameRelease`), the record of an arrival (`recordOf`), the header's size (`headerSize`) and the layout, the octets
--- of the loss counts (`countOctets`), local time (`timestampOf`), which refusal is the first (`first`), and the form of an answer
--- (`answered`). Edge_table's Shared and EdgeTable evaluate these; `header-size` (filing), `counts-back` (counts), `indicator-true`
--- (state), `timestamp-right` (timestamp) and record's Order are laws of theirs. Assumes nothing.
+-- definitions, and held apart from both: how many routes and set times the settings have, where their octets stand and how they are read
+-- (`routesIn`, `setsIn`, `routeStart`, `settingsFrom`, `minutesOf`, `num`, `octetsAt`), what a packet's octets say (`wrongPacket`, `delivered`),
+-- the choice of a filter (`better`, `nobody`) and what a header carries of it (`filterOf`), the loss rule (`lost`), the indicator, the order and
+-- sameness of releases (`later`, `earlier`, `sameRelease`), the header and the record of an arrival (`headerFor`, `recordOf`), the header's size
+-- (`headerSize`), the octets of records and the layout (`recordsOctets`, `layout`), the octets of the loss counts (`countOctets`), local time
+-- (`timestampOf`), which refusal is the first (`first`), and the form of an answer (`answered`). Edge_table's Shared, Packets, LossCounts,
+-- Indicators and EdgeTable evaluate these; `packet-whole` and `read-back` (packets), `header-size` (filing), `counts-back` (counts),
+-- `indicator-true` and `says-only` (state), `timestamp-right` (timestamp) and record's Order are laws of theirs.
 use mathlib.Core.Bool.{Bool, true, false, cond, not, _&&_, _||_}
 use mathlib.Core.List.{List, [], _∷_, _++_}
 use Prim.Native.Nat.{ℕ, zero, suc, _+_, _-_, _%_, _^_, max}

@@ -23,3 +23,5 @@ pub mod Claim
 pub mod Fresh
 pub mod Proof
 pub mod Refused
+pub mod EmptyFiles
+pub mod PacketRun

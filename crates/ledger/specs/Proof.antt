@@ -9,9 +9,8 @@ use lib.Dec.{eqb}
 use lib.ListN.{length, take, drop}
 use Rattle.octets.specs.Number.{Octets}
 use Rattle.record.specs.declared.Tallied.{Tallied}
-use Rattle.record.specs.Record.{Record, recordsOctets}
-use Rattle.record.specs.Walk.{records, walkOf, tallied, tallyOf}
-use Rattle.record.specs.Format.{walks}
+use Rattle.record.specs.Record.{Record, AllRight, recordsOctets}
+use Rattle.record.specs.Walk.{tallied, tallyOf}
 use Rattle.cdrfile.specs.File.{File, layout}
 use Rattle.counts.specs.Counts.{countsIn}
 use Rattle.roundtrip.specs.Described.{RightFile}
@@ -55,41 +54,41 @@ module _ (f : File) (r : RightFile f) where
       ap (λ (c : Contents). c .count) read-right
       ∙ ap (λ (t : Tallied). t .count) (ap tallied (complete f r .walk))
 
-abbrev AllRight : List File → Type 0
-AllRight [] = Unit {0}
-AllRight (f ∷ fs) = RightFile f × AllRight fs
+abbrev FilesRight : List File → Type 0
+FilesRight [] = Unit {0}
+FilesRight (f ∷ fs) = RightFile f × FilesRight fs
 
-all-counted : (fs : List File) → AllRight fs → counted fs ≡ held fs
+all-counted : (fs : List File) → FilesRight fs → counted fs ≡ held fs
 all-counted [] a = refl
 all-counted (f ∷ fs) a = λ i. count-right f (a .0) i + all-counted fs (a .1) i
 
-all-walked : (fs : List File) → AllRight fs → walked fs ≡ flat fs
+all-walked : (fs : List File) → FilesRight fs → walked fs ≡ flat fs
 all-walked [] a = refl
 all-walked (f ∷ fs) a = λ i. back-right f (a .0) i .records ++ all-walked fs (a .1) i
 
-all-accepted : (fs : List File) → AllRight fs → AllAccepted fs
+all-accepted : (fs : List File) → FilesRight fs → AllAccepted fs
 all-accepted [] a = tt
 all-accepted (f ∷ fs) a = ((ap (λ (c : Contents). c .refusal) (read-right f (a .0)), back-right f (a .0)), all-accepted fs (a .1))
 
 -- what the reader finds in their private octets is what these say
-all-losses : (fs : List File) → AllRight fs → lossesIn fs ≡ known fs
+all-losses : (fs : List File) → FilesRight fs → lossesIn fs ≡ known fs
 all-losses [] a = refl
 all-losses (f ∷ fs) a = λ i. countsIn (back-right f (a .0) i .private) .losses + all-losses fs (a .1) i
 
-all-unrouted : (fs : List File) → AllRight fs → unroutedIn fs ≡ noted fs
+all-unrouted : (fs : List File) → FilesRight fs → unroutedIn fs ≡ noted fs
 all-unrouted [] a = refl
 all-unrouted (f ∷ fs) a = λ i. countsIn (back-right f (a .0) i .private) .unrouted + all-unrouted fs (a .1) i
 
-all-counts : (fs : List File) → AllRight fs → Counted fs → AllCounted fs
+all-counts : (fs : List File) → FilesRight fs → Counted fs → AllCounted fs
 all-counts [] a c = tt
 all-counts (f ∷ fs) a c = (ap (λ (g : File). countsIn (g .private) .there) (back-right f (a .0)) ∙ c .0, all-counts fs (a .1) (c .1))
 
 -- the files of a route are among those that closed
-on-right : (i : ℕ) (cs : List Closing) → AllRightFiles cs → AllRight (onRoute i cs)
+on-right : (i : ℕ) (cs : List Closing) → AllRightFiles cs → FilesRight (onRoute i cs)
 on-right i [] a = tt
 on-right i (c ∷ cs) a = go (eqb (c .route) i) (on-right i cs (a .1))
   where
-    go : (b : Bool) → AllRight (onRoute i cs) → AllRight (cond b (c .file ∷ onRoute i cs) (onRoute i cs))
+    go : (b : Bool) → FilesRight (onRoute i cs) → FilesRight (cond b (c .file ∷ onRoute i cs) (onRoute i cs))
     go true rest = (a .0, rest)
     go false rest = rest
 
@@ -99,11 +98,14 @@ module _ (store : List ℕ) (b : ℕ) (r : Route) where
   count-same none h = λ i. cond (h i) (r .file .count) 0
   count-same (some f) h = (λ i. cond (h .live i) (r .file .count) 0) ∙ h .count
 
-  stands-same : (c : Current) → AgreesFile store b r c → walkOf (cond (r .«open») (take (r .file .octets) (drop b store)) []) ≡ records (recordsIn c)
+  right-same : (c : Current) → AgreesFile store b r c → AllRight (recordsIn c)
+  right-same none h = tt
+  right-same (some f) h = h .right
+
+  stands-same : (c : Current) → AgreesFile store b r c → cond (r .«open») (take (r .file .octets) (drop b store)) [] ≡ recordsOctets (recordsIn c)
   unfolding recordsOctets
-  stands-same none h = ap walkOf (λ i. cond (h i) (take (r .file .octets) (drop b store)) []) ∙ walks [] [] tt refl
-  stands-same (some f) h =
-      ap walkOf ((λ i. cond (h .live i) (take (r .file .octets) (drop b store)) []) ∙ h .stands) ∙ walks (recordsOctets (f .records)) (f .records) (h .right) refl
+  stands-same none h = λ i. cond (h i) (take (r .file .octets) (drop b store)) []
+  stands-same (some f) h = (λ i. cond (h .live i) (take (r .file .octets) (drop b store)) []) ∙ h .stands
 
 from-fresh : EventHolds → (xs store : List ℕ) (cs : List Lent) → Octets xs → freshOf xs .refusal ≡ 0 → AllGiven cs
     → Demand3 (wordsOf (managerFrom xs (routesIn xs))) (ledgerFrom xs) store cs
@@ -124,7 +126,7 @@ from-fresh step xs store cs o e g =
     let line : (i : ℕ) → i < routesIn xs → AgreesLine (storeAfter words store cs) (base end i) (routeAt end i) (lineAt z i) = λ i h. w .agrees .lines i (low i h) in
     let count : (i : ℕ) → i < routesIn xs → openCount (routeAt end i) ≡ length (recordsOf (lineAt z i)) =
     λ i h. count-same (storeAfter words store cs) (base end i) (routeAt end i) (lineAt z i .current) (line i h .file) in
-    let right : (i : ℕ) → AllRight (closedOn i bs) = λ i. on-right i (closingsIn bs) (w .right) in
+    let right : (i : ℕ) → FilesRight (closedOn i bs) = λ i. on-right i (closingsIn bs) (w .right) in
     let c : managerIn words .count ≡ routesIn xs = count-in m in
     let at : (i : ℕ) → i < managerIn words .count → i < routesIn xs = λ i h. omega (arith, c) in
     record {
@@ -140,6 +142,7 @@ from-fresh step xs store cs o e g =
       kept =
           λ i h. (
             recordsOf (lineAt z i),
+            right-same (storeAfter words store cs) (base end i) (routeAt end i) (lineAt z i .current) (line i (at i h) .file),
             stands-same (storeAfter words store cs) (base end i) (routeAt end i) (lineAt z i .current) (line i (at i h) .file),
             ap (placed l i) same
                 ∙ sym (fresh-records xs n cs i (at i h))

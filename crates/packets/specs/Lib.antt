@@ -3,3 +3,5 @@ pub mod Laws
 pub mod Walk
 pub mod Fold
 pub mod Stands
+pub mod Whole
+pub mod Work

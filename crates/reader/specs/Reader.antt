@@ -1,5 +1,6 @@
 -- The reader's verdict over any octets (document 01, Reader and Refusals): the first of 8 to 13 in order whose condition
--- holds, or what the file holds. What a described file is, cdrfile's specs say apart from this. Assumes nothing.
+-- holds, or what the file holds. Which octets document 01 describes is said apart from this (roundtrip, Described.antt, by the layout in
+-- cdrfile, File.antt); that the reader accepts just these is demand 2.
 use mathlib.Core.Bool.{Bool, cond, not, _&&_, _||_}
 use mathlib.Core.List.{List, [], _∷_}
 use Prim.Native.Nat.{ℕ, zero, suc, _+_, _-_}

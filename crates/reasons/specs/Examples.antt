@@ -1,6 +1,6 @@
 -- The words by evaluation, from ../shared/CDRSHOW.md. Assumes nothing.
 use mathlib.Core.Path.{_≡_, refl}
-use Rattle.wording.specs.Text.{ascii}
+use Rattle.numerals.specs.Text.{ascii}
 use Rattle.reasons.specs.Closure.{reasonWords}
 use Rattle.reasons.specs.Refusals.{fileRefusalWords}
 

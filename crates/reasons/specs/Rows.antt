@@ -6,7 +6,7 @@ use Prim.Native.Nat.{ℕ}
 use Prim.Native.String.{String}
 use lib.Dec.{eqb}
 use borrow.Author.Tests.{ne-eqb}
-use Rattle.wording.specs.Text.{ascii}
+use Rattle.numerals.specs.Text.{ascii}
 
 pub record Row : Type 0 where
   pub number : ℕ

@@ -1,6 +1,7 @@
 -- Releases and versions (document 01, Record header; 000, 6.1.2.2, 6.1.2.3, 6.1.2.6): their widths, their octets and their
--- order. An absent extension counts as 0. 000 orders by Release * 100 + Version; document 01's order, by release, then
--- extension, then version, is the one meant here. Assumes nothing.
+-- order. An absent extension counts as 0. 000, 6.1.1.3 orders by Release * 100 + Version, and from Rel-10 on, which is release 7, by
+-- (Release + Extension + 1) * 100 + Version; document 01's order, by release, then extension, then version, is the one meant here. Versions
+-- are below 32, so the two orders agree.
 use mathlib.Core.Path.{_≡_}
 use mathlib.Core.Bool.{Bool, cond, _&&_, _||_}
 use mathlib.Core.List.{List, [], _∷_}

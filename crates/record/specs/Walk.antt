@@ -24,7 +24,7 @@ abbrev pub prepend : Record → Walked → Walked
 prepend r (records rs) = records (r ∷ rs)
 prepend r broken = broken
 
--- the walk, with fuel for one record more than there can be
+-- the walk of at most n records; a record has four octets or more, so n is enough for all of them where it is the number of octets
 abbrev pub walkIn : ℕ → List ℕ → Walked
 walkIn zero xs = records []
 walkIn (suc n) xs =

@@ -9,5 +9,8 @@ pub mod Sound
 pub mod Back
 pub mod Write
 pub mod Complete
+pub mod Refused
+pub mod Exactly
 pub mod Demand2
 pub mod Proof
+pub mod Limits

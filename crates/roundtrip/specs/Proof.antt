@@ -1,14 +1,18 @@
--- Demand 2 (Demand2.antt) holds: soundness (Sound, Back), completeness (Complete) and the writer's side (Write) together.
--- Assumes nothing.
+-- Demand 2 (Demand2.antt) holds: soundness (Sound, Back), completeness (Complete), the writer's side (Write) and the refusals
+-- (Refused, Exactly) together.
 use mathlib.Core.Path.{_≡_, refl, sym, ap, _∙_, subst, subst₂}
+use mathlib.Core.Bool.{true}
 use mathlib.Core.Logic.{_↔_}
-use mathlib.Core.List.{List, _++_}
-use Prim.Native.Nat.{ℕ, _+_, _≤_}
+use mathlib.Core.List.{List, [], _∷_, _++_}
+use Prim.Native.Nat.{ℕ, _+_, _≤_, _<_}
 use native.Mathlib.Nat.{zero-add}
 use native.Mathlib.Omega.{arith}
-use lib.ListN.{length, take, drop}
+use lib.Dec.{ltb}
+use lib.ListN.{length, take, drop, replicate, length-replicate}
+use borrow.Author.Tests.{ltb-true, lt-ltb, le-ltb}
 use Rattle.octets.specs.Number.{Octets, num, octets-drop}
 use Rattle.octets.specs.Splice.{splice, splice-there}
+use Rattle.refusals.specs.Refusal.{Rule, _when_, first}
 use Rattle.record.specs.declared.Tallied.{Tallied}
 use Rattle.record.specs.Record.{Record, recordsOctets}
 use Rattle.record.specs.Walk.{tallied, tallyOf}
@@ -17,9 +21,10 @@ use Rattle.roundtrip.specs.Described.{RightFile, Described}
 use Rattle.cdrfile.specs.Laws.{file-length}
 use Rattle.reader.specs.declared.Contents.{Contents}
 use Rattle.reader.specs.Places.{headerLengthAt}
-use Rattle.reader.specs.Reader.{partOf, contentsOf, verdict, readOf}
+use Rattle.reader.specs.Reader.{partOf, contentsOf, verdict, refusedContents, readOf}
 use Rattle.reader.specs.Frame.{sized}
-use Rattle.writer.specs.Writer.{After, writeOf}
+use Rattle.writer.specs.Writer.{After, neededOctets, writeOf}
+use Rattle.writer.specs.Writer.{verdict as writerVerdict}
 use Rattle.roundtrip.specs.Handed.{handedBack}
 use Rattle.roundtrip.specs.Accepted.{Accepted, accepts, accepted}
 use Rattle.roundtrip.specs.Sound.{fileAt, body, layout-again, right-again}
@@ -28,7 +33,9 @@ use Rattle.roundtrip.specs.Back.{read-number, records-back, back}
 use Rattle.roundtrip.specs.Write.{given, right-held, write-number, Taken, taken, body-is, layout-given, given-right, write-given, taken-right}
 use Rattle.roundtrip.specs.Stepping.{stepped, steppedTo, NoneRefused}
 use Rattle.roundtrip.specs.Steps.{recovers}
-use Rattle.roundtrip.specs.Demand2.{Call, Plain, Accepts, fileOf, Gives, Demand2}
+use Rattle.roundtrip.specs.Refused.{read-refused, refused-output, refused-needing, refused-octets}
+use Rattle.roundtrip.specs.Exactly.{NoneApplies, Exactly, none-joined, none-before, first-exactly}
+use Rattle.roundtrip.specs.Demand2.{readerRules, Call, Plain, leftBy, Accepts, fileOf, fileSize, writerRules, Gives, Demand2}
 
 -- Octets that the reader accepts.
 module _ {x : List ℕ} (o : Octets x) (e : readOf x .refusal ≡ 0) where
@@ -206,8 +213,76 @@ module _ {x : List ℕ} (o : Octets x) (e : readOf x .refusal ≡ 0) where
       ∙ write-given (f .header) (f .filter) (f .private) (recordsOctets (f .records)) output (right-held f r) (r .filter .1) (r .private .1) body-octets (f .records) t
       ∙ (λ i. record { answer = record { refusal = 0; octets = length (l i) }; output = splice output 0 (l i) })
 
-pub demand-2 : Demand2
+-- The refusals of the reader.
+reads-first : (x : List ℕ) → readOf x .refusal ≡ first (readerRules x)
 unfolding verdict
+reads-first = read-number
+
+refused-file : (x : List ℕ) → (readOf x .refusal ≡ 0 → ⊥) → readOf x ≡ refusedContents (first (readerRules x))
+unfolding verdict
+refused-file = read-refused
+
+-- The refusals of the writer.
+module _ (c : Call) where
+  writes-first : leftBy c .answer .refusal ≡ first (writerRules c)
+  unfolding writerVerdict
+  writes-first = write-number (c .header) (c .filter) (c .private) (c .records) (c .output)
+
+  writes-exactly : Exactly (writerRules c) (leftBy c .answer .refusal)
+  writes-exactly = first-exactly (writerRules c) refl writes-first
+
+  refused-call : (Accepts c → ⊥)
+      → (leftBy c .output ≡ c .output)
+      × (leftBy c .answer .refusal ≡ 17 → leftBy c .answer .octets ≡ fileSize c)
+      × ((leftBy c .answer .refusal ≡ 17 → ⊥) → leftBy c .answer .octets ≡ 0)
+  refused-call refused = (
+    refused-output (c .header) (c .filter) (c .private) (c .records) (c .output) refused,
+    refused-needing (c .header) (c .filter) (c .private) (c .records) (c .output) refused,
+    refused-octets (c .header) (c .filter) (c .private) (c .records) (c .output) refused,
+  )
+
+  needed-octets : (f : File) → Gives c f → fileSize c ≡ length (layout f)
+  needed-octets f g =
+      (λ i. neededOctets (sym (g .header) i) (sym (g .filter) i) (sym (g .private) i) (sym (g .records) i))
+      ∙ sym (file-length (f .header) (f .filter) (f .private) (recordsOctets (f .records)) (length (f .records)))
+
+-- 17: with an output that the file just fills, none of the rules would apply.
+module _ (c : Call) (p : Plain c) where
+  abbrev filled : Call
+  filled = record { header = c .header; filter = c .filter; private = c .private; records = c .records; output = replicate (fileSize c) 0 }
+
+  filled-plain : Plain filled
+  filled-plain = record { header = p .header; filter = p .filter; private = p .private; records = p .records }
+
+  enough : length (filled .output) ≡ fileSize c
+  enough = length-replicate (fileSize c) 0
+
+  abbrev last : Rule
+  last = 17 when ltb (length (filled .output)) (fileSize c)
+
+  -- the rules before 17, which do not look at the output
+  abbrev before : List Rule
+  before = take 5 (writerRules c)
+
+  rule-17 : (leftBy c .answer .refusal ≡ 17) ↔ (NoneApplies before × (ltb (length (c .output)) (fileSize c) ≡ true))
+  rule-17 = writes-exactly c .each before (17 when ltb (length (c .output)) (fileSize c)) [] refl
+
+  too-short : leftBy c .answer .refusal ≡ 17 → (f : File) × Gives c f × RightFile f × (length (c .output) < length (layout f))
+  too-short e =
+      let a = rule-17 .0 e in
+      let room = le-ltb (length (filled .output)) (fileSize c) (omega (arith, enough)) in
+      let d = takes filled filled-plain .0 (writes-exactly filled .none .1 (none-joined before (last ∷ []) (a .0) (room, tt))) in
+      let g : Gives c (d .0) = record { header = d .1 .header; filter = d .1 .filter; private = d .1 .private; records = d .1 .records } in
+      (d .0, g, d .2, omega (arith, needed-octets c (d .0) g, ltb-true (length (c .output)) (fileSize c) (a .1)))
+
+  needing : (f : File) → Gives c f → RightFile f → length (c .output) < length (layout f) → leftBy c .answer .refusal ≡ 17
+  needing f g r short =
+      let n = needed-octets c f g in
+      let h : Gives filled f = record { header = g .header; filter = g .filter; private = g .private; records = g .records } in
+      let b = writes-exactly filled .none .0 (takes filled filled-plain .1 (f, h, r, omega (arith, enough))) in
+      rule-17 .1 (none-before before (last ∷ []) b, lt-ltb (length (c .output)) (fileSize c) (omega arith))
+
+pub demand-2 : Demand2
 demand-2 =
     record {
       described = described;
@@ -215,11 +290,18 @@ demand-2 =
       only-these = back-right;
       counted = counted;
       recovered = recovered;
-      first-refusal = read-number;
+      first-refusal = reads-first;
+      each-refusal = λ x. first-exactly (readerRules x) refl (reads-first x);
+      refused-file = refused-file;
       taken = takes;
       written = written;
       written-read = written-read;
       rest-stays = stays;
       read-written = read-written;
       apart = apart;
+      writer-first-refusal = writes-first;
+      writer-each-refusal = writes-exactly;
+      refused-call = refused-call;
+      needed-octets = needed-octets;
+      short-output = λ c p. (too-short c p, λ d. needing c p (d .0) (d .1) (d .2) (d .3));
     }

@@ -1,14 +1,16 @@
--- The words by evaluation, from ../shared/CDRSHOW.md. Assumes nothing.
+-- The words by evaluation, from ../shared/CDRSHOW.md.
 use mathlib.Core.Path.{_≡_, refl}
 use mathlib.Core.List.{List, [], _∷_}
 use Prim.Native.Nat.{ℕ}
-use Rattle.wording.specs.Text.{ascii}
+use Rattle.numerals.specs.Text.{ascii}
 use Rattle.wording.specs.Lost.{lostWords}
 use Rattle.wording.specs.Private.{privateWords}
 
--- a lost octet at each end of each phrase
+-- a lost octet at each end of each phrase, and 3 and 131
 pub lost-words : (lostWords 0 ≡ ascii "0, none")
     × (lostWords 1 ≡ ascii "1, at least 1, maybe more")
+    × (lostWords 3 ≡ ascii "3, at least 3, maybe more")
+    × (lostWords 126 ≡ ascii "126, at least 126, maybe more")
     × (lostWords 127 ≡ ascii "127, at least 127, maybe more")
     × (lostWords 128 ≡ ascii "128, some, how many is unknown")
     × (lostWords 129 ≡ ascii "129, exactly 1")
@@ -16,7 +18,7 @@ pub lost-words : (lostWords 0 ≡ ascii "0, none")
     × (lostWords 254 ≡ ascii "254, exactly 126")
     × (lostWords 255 ≡ ascii "255, 127 or more, all of them counted")
 unfolding lostWords
-lost-words = (refl, refl, refl, refl, refl, refl, refl, refl)
+lost-words = (refl, refl, refl, refl, refl, refl, refl, refl, refl, refl)
 
 -- none, empty, the loss counts, nine octets of another kind, and eight
 abbrev counts : ℕ → List ℕ

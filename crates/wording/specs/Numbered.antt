@@ -2,7 +2,7 @@
 use mathlib.Core.List.{List, _++_}
 use Prim.Native.Nat.{ℕ}
 use Rattle.numerals.specs.Decimal.{decimal}
-use Rattle.wording.specs.Text.{ascii}
+use Rattle.numerals.specs.Text.{ascii}
 
 abbrev pub start : ℕ → List ℕ
 start n = decimal n ++ ascii ", "

@@ -10,7 +10,7 @@ use Rattle.numerals.specs.Decimal.{decimal}
 use Rattle.numerals.specs.Hexadecimal.{hexOf}
 use Rattle.counts.specs.declared.Counts.{Counts}
 use Rattle.counts.specs.Counts.{countsIn}
-use Rattle.wording.specs.Text.{ascii}
+use Rattle.numerals.specs.Text.{ascii}
 
 -- the loss counts, or other words where they are none
 abbrev pub countsWords : Counts → List ℕ → List ℕ

@@ -1,5 +1,5 @@
 -- The phrase for a lost octet tells the octet: no two octets have the same words, so that what the words mean is one thing. Shown by reading
--- each phrase back, of all 256 by evaluation. Assumes nothing.
+-- each phrase back, of all 256 by evaluation.
 use mathlib.Core.Path.{_≡_, refl, sym, ap, _∙_}
 use mathlib.Core.Bool.{Bool, true, cond}
 use mathlib.Core.List.{List, [], _∷_}
@@ -9,15 +9,15 @@ use lib.Dec.{eqb, ltb}
 use lib.ListN.{getD, drop}
 use borrow.Author.Tests.{eqb-true}
 use Rattle.refusals.specs.Below.{allBelow, below-each}
-use Rattle.wording.specs.Text.{ascii}
+use Rattle.numerals.specs.Text.{ascii}
 use Rattle.wording.specs.Lost.{phraseOf, phraseWords}
 
--- the number that the digits in front make, behind those that make n
+-- the number that the digits in front make, after those that make n
 abbrev numberFrom : ℕ → List ℕ → ℕ
 numberFrom n [] = n
 numberFrom n (d ∷ ds) = cond (ltb d 48) n (cond (ltb d 58) (numberFrom (n * 10 + (d - 48)) ds) n)
 
--- each phrase has a first letter of its own
+-- each phrase has a first letter of its own, but for that of 127, which is read as those of 1 to 126 are
 abbrev begins : List ℕ → String → Bool
 begins words text = eqb (getD words 0 0) (getD (ascii text) 0 0)
 

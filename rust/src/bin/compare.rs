@@ -7,7 +7,7 @@ use leveehum::counts::{self, LossCounts};
 use leveehum::dates::{self, Dated};
 use leveehum::fields::{Header, EMPTY, NONE, OCTETS};
 use leveehum::files::FAMILIES;
-use leveehum::inputs::{self, Input};
+use leveehum::inputs::{self, Input, LIMITS};
 use leveehum::name::{self, Fields, LONGEST_NAME};
 use leveehum::names;
 use leveehum::proved::{self, NameRead, Part, Read, Stamped, Step, Written};
@@ -76,6 +76,8 @@ struct Counts {
     stated: [usize; STATEMENTS.len()],
     /// What the writers were given, by how it is one of `CONTRADICTIONS`.
     contradicted: [usize; CONTRADICTIONS.len()],
+    /// What the writers were given about the longest file, by its place in `LIMITS`.
+    limits: [usize; LIMITS.len()],
     step: Tally,
     /// Parts of files, by places within the file and forged ones.
     parts: usize,
@@ -98,6 +100,7 @@ fn main() -> ExitCode {
         return ExitCode::FAILURE;
     }
     println!("{} files, {} records", counts.files, counts.records);
+    let limits = LIMITS.map(|limit| limit.name);
     let complete = [
         complete("reader", &counts.reader, &[0, 8, 9, 10, 11, 12, 13]),
         complete("writer", &counts.writer, &[0, 2, 10, 11, 13, 8, 17]),
@@ -106,6 +109,7 @@ fn main() -> ExitCode {
         all_came("private octets", &PRIVATE, &counts.private),
         all_came("private extensions", &STATEMENTS, &counts.stated),
         all_came("contradicted", &CONTRADICTIONS, &counts.contradicted),
+        all_came("about the longest file", &limits, &counts.limits),
         complete("timestamp", &counts.stamp, &[0, 4, 2]),
         counts.has_day_ends(),
         complete("name reader", &counts.name, &[0, 20]),
@@ -139,6 +143,7 @@ fn run(counts: &mut Counts) -> Result<(), Difference> {
     }
     compare_dates(&mut random, counts)?;
     compare_writers(&mut random, counts)?;
+    compare_limits(&mut random, counts)?;
     compare_counts(&mut random, counts)?;
     let stamps = compare_day_ends(counts).and_then(|()| compare_stamps(&mut random, counts));
     stamps.map_err(|what| Difference {
@@ -488,6 +493,17 @@ fn compare_writers(random: &mut Random, counts: &mut Counts) -> Result<(), Diffe
             compare_writer(random, &given, &mut counts.writer)
                 .map_err(|what| writer_difference(what, &given))?;
         }
+    }
+    Ok(())
+}
+
+/// Both writers about the length of the longest file, where 8 begins; each once.
+fn compare_limits(random: &mut Random, counts: &mut Counts) -> Result<(), Difference> {
+    for (limit, times) in LIMITS.iter().zip(&mut counts.limits) {
+        let given = limit.input(random);
+        compare_writer(random, &given, &mut counts.writer)
+            .map_err(|what| writer_difference(format!("{}: {what}", limit.name), &given))?;
+        *times += 1;
     }
     Ok(())
 }

@@ -15,7 +15,7 @@ fits : (c : tie.Else1) → c .before .before .before .before .rewrite .result .o
 fits c =
     let w = c .before .before .before .before in
     let a = w .before .before .before .before .args in
-    let e = w .rewrite .ensures in
+    let e = w .rewrite .ensures .defined in
     let n : w .rewrite .result .octets ≡ rewriteOf (a .file .now) (a .output .now) .answer .octets = ap (λ (s : After). s .answer .octets) e in
     let z : rewriteOf (a .file .now) (a .output .now) .answer .refusal ≡ 0 = ap (λ (s : After). s .answer .refusal) (sym e) ∙ c .if1 .left in
     omega (arith, rewrite-fits (a .file .now) (a .output .now) z)

@@ -3,7 +3,7 @@ use mathlib.Core.Path.{ap, _∙_}
 use mathlib.Core.Bool.{Bool, cond}
 use native.Mathlib.Omega.{arith}
 use borrow.Author.Tests.{lt-ltb, le-ltb}
-use Rattle.wording.specs.Text.{ascii}
+use Rattle.numerals.specs.Text.{ascii}
 use Rattle.wording.specs.Laid.{laid-of, laid-as}
 use Rattle.reasons.specs.Rows.{no-row}
 use Rattle.reasons.specs.Closure.{reasonRows, reserved, why}

@@ -1,10 +1,10 @@
--- `wording::lost::lay_phrase` meets its contract: each way out is a phrase. Assumes nothing.
+-- `wording::lost::lay_phrase` meets its contract: each way out is a phrase, the second one for 1 to 126 and one for 127.
 use mathlib.Core.Path.{ap}
 use mathlib.Core.List.{List}
 use Prim.Native.Nat.{ℕ}
 use native.Mathlib.Omega.{arith}
 use Rattle.wording.specs.Laid.{laid-then, laid-of, laid-as}
-use Rattle.wording.specs.Lost.{phraseOf, phraseWords, phrase-least, phrase-exactly, phrase-many}
+use Rattle.wording.specs.Lost.{phraseOf, phraseWords, words-least, phrase-exactly, phrase-many}
 use borrow.Author.Needs.{needs}
 use Rattle.wording.proofs.lost.lay_phrase.Statement.{statement}
 use Rattle.wording.proofs.lost.lay_phrase.Tie as tie
@@ -44,11 +44,12 @@ same-length-2 c = search needs
 
 returns-2 : tie.Need-returns-2
 returns-2 c =
-    let s = c .before .before .before .before .before .before .before .before .before .before .before .before .before .before .before .before .before in
+    let small = c .before .before .before .before .before .before .before .before .before .before .before .before .before .before in
+    let s = small .before .before .before in
     let v = c .before .before .before .before .before .before .before .before .before .before .before .lay2 .ensures in
     let n = c .before .before .before .before .before .before .before .lay-number .ensures in
     let w = c .before .before .lay3 .ensures in
-    laid-as (ap phraseWords (phrase-least (s .args .octet) (c .before .before .before .before .before .before .before .before .before .before .before .before .before .before .before .if1 .left) (c .before .before .before .before .before .before .before .before .before .before .before .before .before .before .if2 .taken))) (laid-then (omega (arith, s .pre)) v (laid-then (v .within) (n .0) w))
+    laid-as (words-least (s .args .octet) (small .before .if1 .left) (small .if2 .taken)) (laid-then (omega (arith, s .pre)) v (laid-then (v .within) (n .0) w))
 
 slice-aggregate-lay-4 : tie.Need-slice-aggregate-lay-4
 slice-aggregate-lay-4 c = search needs
@@ -79,10 +80,12 @@ same-length-4 c = search needs
 
 returns-4 : tie.Need-returns-4
 returns-4 c =
-    let s = c .before .before .before .before .before .before .before .before .before .before .before .before .before .before in
+    let below = c .before .before .before .before .before .before .before .before .before in
+    let s = below .before .before .before .before .before in
     let v = c .before .before .before .before .before .before .lay5 .ensures in
     let n = c .before .before .lay-number2 .ensures in
-    laid-as (ap phraseWords (phrase-exactly (s .args .octet) (c .before .before .before .before .before .before .before .before .before .before .if3 .left) (c .before .before .before .before .before .before .before .before .before .before .before .if2 .left) (c .before .before .before .before .before .before .before .before .before .if4 .taken))) (laid-then (omega (arith, s .pre)) v (n .0))
+    let e = phrase-exactly (s .args .octet) (below .before .if3 .left) (below .before .before .if2 .left) (below .if4 .taken) in
+    laid-as (ap phraseWords e) (laid-then (omega (arith, s .pre)) v (n .0))
 
 slice-aggregate-lay-6 : tie.Need-slice-aggregate-lay-6
 slice-aggregate-lay-6 c = search needs
@@ -94,7 +97,10 @@ same-length-5 : tie.Need-same-length-5
 same-length-5 c = search needs
 
 returns-5 : tie.Need-returns-5
-returns-5 c = laid-as (ap phraseWords (phrase-many (c .before .before .before .before .before .before .before .before .before .before .args .octet) (c .before .before .before .before .before .if4 .left))) (c .before .before .lay6 .ensures)
+returns-5 c =
+    let top = c .before .before .before .before .before in
+    let s = top .before .before .before .before .before in
+    laid-as (ap phraseWords (phrase-many (s .args .octet) (top .if4 .left))) (c .before .before .lay6 .ensures)
 
 pub lay-phrase-spec : {M : Type 1} → statement M
 lay-phrase-spec =

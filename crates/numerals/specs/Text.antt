@@ -1,4 +1,4 @@
--- A text as its octets: of each character its code, which is its octet in ASCII. Assumes nothing.
+-- A text as its octets: of each character its code, which is its octet in ASCII.
 use mathlib.Core.List.{List, [] as none, _∷_ as _before_}
 use Prim.Native.Nat.{ℕ}
 use Prim.Native.Char.{code}
