@@ -14,7 +14,7 @@ use events::Answer;
 // What a packet answers: the refusal that stopped it or 0, how many records were accepted, and each tried record's own answer, with
 // zeros behind them.
 #[repr(C)]
-#[derive(Drop)]
+#[derive(Clone, Copy)]
 pub struct Answers {
     pub refusal: u8,
     pub accepted: u8,

@@ -3,7 +3,7 @@ ghost use Rattle.std.specs.Prelude.{◌≡◌, ◌<◌};
 ghost use Rattle.calendar.specs.Calendar.{date_of, longest};
 
 // A date without its year: month 1 to 12, day 1 to 31.
-#[derive(Drop)]
+#[derive(Clone, Copy)]
 pub struct Date {
     pub month: u32,
     pub day: u32,

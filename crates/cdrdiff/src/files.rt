@@ -4,7 +4,7 @@ ghost use Rattle.io.specs.Counts.{IsPrefixLen};
 use crate::words::report_unreadable;
 
 // Whether every read worked, and how many octets of the file are at the start of the buffer.
-#[derive(Drop)]
+#[derive(Clone, Copy)]
 pub struct Taken {
     pub works: bool,
     pub count: usize,

@@ -14,7 +14,7 @@ use timestamp::Timestamp;
 // append, the file sequence number, the closure reason, the node's 20 address octets and the lost indicator; and what it states
 // of its private extension: 0 there is none, 1 an empty one, 2 one with octets.
 #[repr(C)]
-#[derive(Drop)]
+#[derive(Clone, Copy)]
 pub struct Header {
     pub high: Release,
     pub low: Release,
@@ -75,7 +75,7 @@ fn release_octet(r: Release) -> u8
 }
 
 // What stands in octets 1 to 50, as numbers.
-#[derive(Drop)]
+#[derive(Clone, Copy)]
 struct Fixed {
     length: u32,
     header: u32,

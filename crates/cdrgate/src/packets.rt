@@ -11,7 +11,7 @@ use gatesteps::Run;
 use textlines::{Printer, part};
 
 // Whether a line has a packet, and of how many octets.
-#[derive(Drop)]
+#[derive(Clone, Copy)]
 pub struct Packet {
     pub is: bool,
     pub octets: usize,

@@ -3,7 +3,7 @@ use filename::Fields;
 use textlines::{Word, number_at, part, word_at};
 
 // A name to be written: its fields, where the words of its node identifier and private part stand, and the output's octets.
-#[derive(Drop)]
+#[derive(Clone, Copy)]
 pub struct Order {
     pub fields: Fields,
     pub node: Word,
@@ -12,7 +12,7 @@ pub struct Order {
 }
 
 // A name to be read, which is all of the line behind its first two octets, or one to be written. Any other line is wrong.
-#[derive(Drop)]
+#[derive(Clone, Copy)]
 pub enum Asked {
     Read,
     Write(Order),

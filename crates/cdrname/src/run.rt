@@ -4,7 +4,7 @@ use crate::asked::{Asked, asked_by};
 use textlines::{LINES, Printer, Source, Taken, finish, part, take_line, turns_of};
 
 // What is left of the input's buffer, what stands on the page, whether lines go on, and whether a wrong one ended them.
-#[derive(Drop)]
+#[derive(Clone, Copy)]
 struct Run {
     source: Source,
     printer: Printer,

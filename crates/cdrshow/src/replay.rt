@@ -12,7 +12,7 @@ use textlines::{
 };
 
 // What is left of the input's buffer, what stands on the page, whether lines go on, and whether a wrong one ended them.
-#[derive(Drop)]
+#[derive(Clone, Copy)]
 struct Run {
     source: Source,
     printer: Printer,

@@ -5,7 +5,7 @@ ghost use Rattle.counts.specs.Counts.{count_octets, no_counts, counts_in};
 // What private octets say: whether they are such an extension, and if so the known losses of the file's time and the unrouted
 // records. The field `there` tells an extension that counts none from what is no such extension.
 #[repr(C)]
-#[derive(Drop)]
+#[derive(Clone, Copy)]
 pub struct Counts {
     pub there: bool,
     pub losses: u32,

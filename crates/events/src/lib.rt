@@ -12,7 +12,7 @@ pub use sets::is_met;
 // for 4 and 6), the number of files closed, the octets of filters that RECEIVE compared (document 02, ask 7) and the octets written to
 // the output; or a refusal with zeros, but 17 with the needed octets.
 #[repr(C)]
-#[derive(Drop)]
+#[derive(Clone, Copy)]
 pub struct Answer {
     pub refusal: u8,
     pub outcome: u8,
@@ -24,7 +24,7 @@ pub struct Answer {
 
 // What RECEIVE is told of a record beside its key and body.
 #[repr(C)]
-#[derive(Drop)]
+#[derive(Clone, Copy)]
 pub struct Arrival {
     pub mark: u32,
     pub release: u32,

@@ -11,7 +11,7 @@ pub use writing::write;
 // of the local time's differential from UTC, 1 for plus and 0 for minus, and its hours and minutes; and whether the private part
 // is there.
 #[repr(C)]
-#[derive(Drop)]
+#[derive(Clone, Copy)]
 pub struct Fields {
     pub count: u32,
     pub year: u32,
@@ -28,7 +28,7 @@ pub struct Fields {
 // What the reader answers: refusal 0 with the octets of the node identifier, which begin the name, those of the private part,
 // which end it, and the fields; or 20 with zeros.
 #[repr(C)]
-#[derive(Drop)]
+#[derive(Clone, Copy)]
 pub struct Name {
     pub refusal: u8,
     pub node: usize,
@@ -38,7 +38,7 @@ pub struct Name {
 
 // What the writer answers: refusal 0 with the name's octets, or 20 or 21 with 0.
 #[repr(C)]
-#[derive(Drop)]
+#[derive(Clone, Copy)]
 pub struct Written {
     pub refusal: u8,
     pub octets: usize,

@@ -3,7 +3,7 @@ use crate::script::{Command, command_of};
 use textlines::{Source, Taken, part, take_line};
 
 // What a line asks for, and what is left of the buffer behind it.
-#[derive(Drop)]
+#[derive(Clone, Copy)]
 pub struct Told {
     pub command: Command,
     pub source: Source,

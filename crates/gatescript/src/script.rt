@@ -4,7 +4,7 @@ use events::Arrival;
 use textlines::number_at;
 
 // A RECEIVE: its key's and its body's octets stand one behind the other.
-#[derive(Drop)]
+#[derive(Clone, Copy)]
 pub struct Receipt {
     pub time: u32,
     pub arrival: Arrival,
@@ -13,7 +13,7 @@ pub struct Receipt {
 }
 
 // An event with its time, and then its route and its reason if it has them; a packet of so many octets; or nothing, where neither is due.
-#[derive(Drop)]
+#[derive(Clone, Copy)]
 pub enum Event {
     Nothing,
     Open(u32, u32),
@@ -25,7 +25,7 @@ pub enum Event {
 
 // A line's meaning: nothing, settings of so many octets, a store or outputs of so many octets, an event, or the state to be
 // printed. Any other line is wrong. Behind the last line stands the script's end.
-#[derive(Drop)]
+#[derive(Clone, Copy)]
 pub enum Command {
     Comment,
     Settings(usize),

@@ -5,7 +5,7 @@ use crate::memory::clear;
 use textlines::{NOWHERE, Number, behind_space, digits_from, no_number, number_at};
 
 // How many octets a word gave, and where it ends.
-#[derive(Drop)]
+#[derive(Clone, Copy)]
 pub struct Octets {
     pub count: usize,
     pub next: usize,

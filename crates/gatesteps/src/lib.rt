@@ -15,7 +15,7 @@ const WIDTH: usize = 524288;
 // What goes from line to line beside the manager's words, which are lent: whether there is a manager; whether no event came
 // since the settings line; how many octets the store and the outputs have; what is left of the input's buffer; what stands on
 // the page; whether the run goes on; and whether it has ended at a wrong line.
-#[derive(Drop)]
+#[derive(Clone, Copy)]
 pub struct Run {
     pub is_set: bool,
     pub is_fresh: bool,

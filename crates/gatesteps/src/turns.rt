@@ -7,7 +7,7 @@ use gatescript::{Command, Event, next_command};
 use textlines::{LINES, part};
 
 // The run behind a line, and the event that the line has due on the manager.
-#[derive(Drop)]
+#[derive(Clone, Copy)]
 pub struct Turn {
     pub run: Run,
     pub event: Event,

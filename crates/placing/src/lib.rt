@@ -15,7 +15,7 @@ use state::{Node, Route};
 
 // What a placed record does to its route: whether it closes the open file first, and with which reason; how many octets of
 // records stand before it in the file that takes it; the route with it in that file; and whether this fills the file.
-#[derive(Drop)]
+#[derive(Clone, Copy)]
 struct Plan {
     turns: bool,
     reason: u8,
@@ -26,7 +26,7 @@ struct Plan {
 
 // What placing a record leaves of its route, and the number and the octets of the files that it closes; or that they do not fit
 // the output, with the octets that they need.
-#[derive(Drop)]
+#[derive(Clone, Copy)]
 pub struct Placed {
     pub fits: bool,
     pub route: Route,

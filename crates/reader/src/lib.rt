@@ -12,7 +12,7 @@ use timestamp::Timestamp;
 
 // A part of a file, by value: where it starts and how many octets it has.
 #[repr(C)]
-#[derive(Drop)]
+#[derive(Clone, Copy)]
 pub struct Part {
     pub start: usize,
     pub octets: usize,
@@ -21,7 +21,7 @@ pub struct Part {
 // What a file holds: refusal 0 with the header's fields, the parts of filter, private octets and records, and the number of
 // records; or 8 to 13 with zeros. The header's length is where the records start.
 #[repr(C)]
-#[derive(Drop)]
+#[derive(Clone, Copy)]
 pub struct Contents {
     pub refusal: u8,
     pub header: Header,
@@ -33,7 +33,7 @@ pub struct Contents {
 
 // What a header's lengths say: refusal 0 with the header's length, the filter's, what they state of a private extension and its part;
 // or 8 or 9 with zeros.
-#[derive(Drop)]
+#[derive(Clone, Copy)]
 struct Frame {
     refusal: u8,
     header: usize,

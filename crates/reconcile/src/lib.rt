@@ -10,7 +10,7 @@ ghost use Rattle.reconcile.specs.Reconciled.{refused_side, reconciled_of};
 // The answer: `refusal` is 0, or 23 with the `side`, 1 or 2, and the reader's `number`; then how many records are in both files, only in the first and only
 // in the second, zeros where refused.
 #[repr(C)]
-#[derive(Drop)]
+#[derive(Clone, Copy)]
 pub struct Reconciled {
     pub refusal: u8,
     pub side: u8,
@@ -21,7 +21,7 @@ pub struct Reconciled {
 }
 
 // The last three of them.
-#[derive(Drop)]
+#[derive(Clone, Copy)]
 struct Shares {
     both: usize,
     first: usize,

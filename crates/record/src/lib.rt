@@ -7,7 +7,7 @@ ghost use Rattle.record.specs.HeaderOctets.{NarrowHeader, five_octets};
 
 // A release identifier (3 bits), its extension (0 unless the release is 7) and a version identifier (5 bits).
 #[repr(C)]
-#[derive(Drop)]
+#[derive(Clone, Copy)]
 pub struct Release {
     pub release: u8,
     pub extension: u8,
@@ -16,7 +16,7 @@ pub struct Release {
 
 // What a record header says beside the body's length: data record format (3 bits) and TS number (5 bits).
 #[repr(C)]
-#[derive(Drop)]
+#[derive(Clone, Copy)]
 pub struct RecordHeader {
     pub release: Release,
     pub format: u8,
@@ -25,7 +25,7 @@ pub struct RecordHeader {
 
 // The answer of a step: refusal 0 with the header's fields and the octets of header and body, or 11 with zeros.
 #[repr(C)]
-#[derive(Drop)]
+#[derive(Clone, Copy)]
 pub struct Stepped {
     pub refusal: u8,
     pub fields: RecordHeader,
@@ -35,7 +35,7 @@ pub struct Stepped {
 
 // What a walk over records one behind another found: refusal 0 with their number and the greatest and least place in the
 // order of releases, or 11 with zeros.
-#[derive(Drop)]
+#[derive(Clone, Copy)]
 pub struct Tallied {
     pub refusal: u8,
     pub count: usize,

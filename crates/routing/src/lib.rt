@@ -12,14 +12,14 @@ use state::Routed;
 use words::{count_of, packed, top_of};
 
 // What comparing a filter with a key says: whether it fits, and how many octets were compared.
-#[derive(Drop)]
+#[derive(Clone, Copy)]
 struct Compared {
     fits: bool,
     octets: u8,
 }
 
 // What routing found, and how many octets of filters were compared for it (document 01: counted comparisons, carried in the result).
-#[derive(Drop)]
+#[derive(Clone, Copy)]
 pub struct Counted {
     pub routed: Routed,
     pub compared: u8,

@@ -13,7 +13,7 @@ use sets::put_sets;
 
 // The answer: refusal 0 with a fresh manager's words; or 1, 2, 3 or 22 with the words of the one state that every event answers with 18.
 #[repr(C)]
-#[derive(Drop)]
+#[derive(Clone, Copy)]
 pub struct Loaded {
     pub refusal: u8,
     pub words: [u32; 360],

@@ -4,7 +4,7 @@ ghost use Rattle.std.specs.Prelude.{◌+◌, ◌≤◌, length};
 use textlines::{Number, no_number, number_at};
 
 // The two numbers of a line, if it has the form of one with so many.
-#[derive(Drop)]
+#[derive(Clone, Copy)]
 pub struct Two {
     pub right: bool,
     pub first: u32,
@@ -12,7 +12,7 @@ pub struct Two {
 }
 
 // The same of six.
-#[derive(Drop)]
+#[derive(Clone, Copy)]
 pub struct Six {
     pub right: bool,
     pub first: u32,
@@ -24,7 +24,7 @@ pub struct Six {
 }
 
 // The octets of a line, if it has the form of a file's: how many they are.
-#[derive(Drop)]
+#[derive(Clone, Copy)]
 pub struct Octets {
     pub right: bool,
     pub count: usize,

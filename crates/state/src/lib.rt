@@ -14,7 +14,7 @@ pub use size::header_size;
 // A route's settings (document 01, Settings): its filter, of which `octets` count and the rest are 0; the size limit; the
 // open-time limit in minutes and the most records, 0 for none; the flag for one release and version per file; and the release
 // and version of an empty file.
-#[derive(Drop)]
+#[derive(Clone, Copy)]
 pub struct RouteSettings {
     pub filter: [u8; 20],
     pub octets: u8,
@@ -27,7 +27,7 @@ pub struct RouteSettings {
 
 // An open file: its sequence number, the minutes of opening and last append, the greatest and least release of its records
 // (the configured one where it has none), their format, their number and their octets.
-#[derive(Drop)]
+#[derive(Clone, Copy)]
 pub struct OpenFile {
     pub sequence: u32,
     pub opened: u32,
@@ -41,7 +41,7 @@ pub struct OpenFile {
 
 // A route: its settings, its next sequence number, the known losses and the unrouted records since its last file closed, and
 // its open file, if any.
-#[derive(Drop)]
+#[derive(Clone, Copy)]
 pub struct Route {
     pub settings: RouteSettings,
     pub next: u32,
@@ -52,14 +52,14 @@ pub struct Route {
 }
 
 // The node: its address, and its UTC offset plus 1,439.
-#[derive(Drop)]
+#[derive(Clone, Copy)]
 pub struct Node {
     pub address: [u8; 16],
     pub bias: u32,
 }
 
 // What routing found: whether a route fits, which one, and how many octets its filter has.
-#[derive(Drop)]
+#[derive(Clone, Copy)]
 pub struct Routed {
     pub found: bool,
     pub at: u8,

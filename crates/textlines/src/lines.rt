@@ -5,14 +5,14 @@ use crate::parts::{find, part};
 use libc::STDIN_FILENO;
 
 // What is left of the buffer: the octets from `at` to `end`.
-#[derive(Drop)]
+#[derive(Clone, Copy)]
 pub struct Source {
     pub at: usize,
     pub end: usize,
 }
 
 // The next octet of the input, unless it has ended, and what is left of the buffer then.
-#[derive(Drop)]
+#[derive(Clone, Copy)]
 struct Next {
     ended: bool,
     octet: u8,
@@ -20,7 +20,7 @@ struct Next {
 }
 
 // What stands next: nothing, a line of so many octets with what is left of the buffer behind it, or a line longer than is taken.
-#[derive(Drop)]
+#[derive(Clone, Copy)]
 pub enum Taken {
     Nothing,
     Line(usize, Source),

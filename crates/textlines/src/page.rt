@@ -4,7 +4,7 @@ use libc::STDOUT_FILENO;
 use numerals::hex_digit;
 
 // How many octets stand on the page, and whether every page so far was written.
-#[derive(Drop)]
+#[derive(Clone, Copy)]
 pub struct Printer {
     pub fill: usize,
     pub works: bool,

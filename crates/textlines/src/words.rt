@@ -9,14 +9,14 @@ pub const NOWHERE: usize = 18446744073709551615;
 const MOST: u64 = 4294967295;
 
 // A number, and where its word ends.
-#[derive(Drop)]
+#[derive(Clone, Copy)]
 pub struct Number {
     pub value: u32,
     pub next: usize,
 }
 
 // Where a word begins and ends.
-#[derive(Drop)]
+#[derive(Clone, Copy)]
 pub struct Word {
     pub start: usize,
     pub next: usize,

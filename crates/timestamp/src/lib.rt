@@ -6,7 +6,7 @@ ghost use Rattle.timestamp.specs.Stamp.{stamp_of, refused};
 
 // The fields from the top bit of the word on. A sign of 1 is plus; the deviation is how far local time is from UTC.
 #[repr(C)]
-#[derive(Drop)]
+#[derive(Clone, Copy)]
 pub struct Timestamp {
     pub month: u32,
     pub day: u32,
@@ -19,7 +19,7 @@ pub struct Timestamp {
 
 // What `stamp` answers: a refusal, 0 for none, and the octets, zeros where it refused.
 #[repr(C)]
-#[derive(Drop)]
+#[derive(Clone, Copy)]
 pub struct Stamped {
     pub refusal: u8,
     pub octets: [u8; 4],

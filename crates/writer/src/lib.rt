@@ -8,7 +8,7 @@ use cdrfile::Header;
 
 // The answer: refusal 0 with the file's octets, 17 with the octets that it needs, or another number with 0.
 #[repr(C)]
-#[derive(Drop)]
+#[derive(Clone, Copy)]
 pub struct Written {
     pub refusal: u8,
     pub octets: usize,

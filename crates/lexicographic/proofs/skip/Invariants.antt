@@ -1,0 +1,12 @@
+-- `order::skip` meets its contract: what is left from i on lies as the whole does.
+use mathlib.Core.Path.{◌≡◌}
+use Prim.Native.Nat.{◌-◌, ◌≤◌}
+use lib.ListN.{drop}
+use Rattle.lexicographic.specs.Lexicographic.{order_of}
+use Rattle.lexicographic.proofs.skip.Given as goal
+
+abbrev pub invariant-loop-i : goal.invariant-loop-i
+invariant-loop-i l = (l.i ≤ l.n) × (order_of (drop l.i l.x) (drop l.i l.y) ≡ order_of l.x l.y)
+
+abbrev pub decreases-loop-i : goal.decreases-loop-i
+decreases-loop-i l = l.n - l.i

@@ -1,0 +1,135 @@
+use mathlib.Core.Path.{◌≡◌, sym, ap, ◌∙◌}
+use mathlib.Core.Bool.{true, cond}
+use mathlib.Core.Logic.{⊎_elim}
+use Prim.Native.Nat.{ℕ, ◌+◌, ◌-◌, ◌≤◌, ◌<◌}
+use native.Mathlib.Omega.{arith}
+use Rattle.octets.specs.Splice.{splice}
+use Rattle.state.specs.declared.Route.{Route}
+use Rattle.state.specs.declared.Node.{Node}
+use Rattle.state.specs.Manager.{Manager}
+use Rattle.state.specs.Manager.{route_at, base, node_of}
+use Rattle.state.specs.Regions.{region_within}
+use Rattle.words.specs.Words.{manager_in, words_of}
+use Rattle.words.specs.Laws.{twenty}
+use Rattle.filing.specs.Closing.{lost_octet, closed_file, closed_size}
+use Rattle.filing.specs.Closed.{closed_length}
+use Rattle.filing.specs.Needs.{Closable}
+use Rattle.events.specs.Met.{met}
+use Rattle.events.specs.Rules.{closed_route, due, ending}
+use Rattle.events.specs.Events.{met_at, ends, end_reason, up_to}
+use Rattle.events.specs.Cases.{closable_as, closed_as}
+use Rattle.manager.specs.Tick.{begins, same_route, same_sets, meets, ready, turn_not, turn_due}
+use Rattle.manager.proofs.ticking.close_due.Goals as goal
+use Rattle.manager.proofs.ticking.close_due.Goals.{After-is_ending, After-route_at-r, Start}
+
+abbrev state : goal.Start → Manager
+state s = manager_in s.args.words.now
+
+few : (s : goal.Start) → s.args.n ≤ 8
+few s = omega (arith, s.requires.1.few, s.requires.1.state.few)
+
+below : (c : goal.After-route_at-r) → c.loop-i.i < 8
+below c = omega (arith, few c.Start, c.loop-i-test.true)
+
+route_is : (c : goal.After-route_at-r) → c.route_at-r.result ≡ route_at (state c.Start) c.loop-i.i
+route_is c = c.route_at-r.ensures.0 ∙ same_route _ _ _ _ _ c.loop-i.invariant.1 c.loop-i-test.true (few c.Start)
+
+-- whether its file ends
+told : (c : goal.After-is_ending)
+    → c.is_ending.result ≡ ends (state c.Start) c.args.t c.loop-i.i
+told c =
+    let l = c.loop-i in
+    let m = state c.Start in
+    let t = c.args.t in
+    let sets = same_sets _ _ _ _ _ l.invariant.1 c.loop-i-test.true (few c.Start) in
+    let fell : c.is_met-met.result ≡ met_at m t l.i = c.is_met-met.ensures ∙ (λ k. met (sets k) l.i (l.invariant.0 k).bias (route_is c.After-route_at-r k).file.opened t) in
+    c.is_ending.ensures ∙ (λ k. ending t (route_is c.After-route_at-r k) (fell k))
+
+-- a file that ends can be closed behind those before it
+closable : (c : goal.After-route_at-r)
+    → let l = c.loop-i in
+    let r = route_at (state c.Start) l.i in
+    ends (state c.Start) c.args.t l.i ≡ true
+    → Closable (node_of (state c.Start)) r (lost_octet r) c.args.store.now (base (state c.Start) l.i) l.output l.at
+closable c e = ready _ _ _ _ _ c.loop-i.invariant.1 c.loop-i-test.true e c.requires.1
+
+pub loop-i-init : goal.loop-i-init
+loop-i-init c = (c.node_of-node.ensures, begins _ _ _ _ _ c.requires.0)
+
+pub route_at-r-requires : goal.route_at-r-requires
+route_at-r-requires c = (c.loop-i.invariant.1.number, omega (arith, few c.before.before.before.before.before.before.before.before, c.loop-i-test.true))
+
+pub is_met-met-requires : goal.is_met-met-requires
+is_met-met-requires c =
+    let l = c.loop-i in
+    meets _ _ _ _ _ l.invariant.1 c.loop-i-test.true c.requires.1 c.route_at-r.ensures.1 (ap (λ (n : Node). n.bias) l.invariant.0)
+
+pub close_file-requires : goal.close_file-requires
+close_file-requires c =
+    let l = c.loop-i in
+    closable_as (state (goal.at.close_file-requires c).Start) l.i l.invariant.0 (route_is (goal.at.close_file-requires c).After-route_at-r) l.invariant.1.from (closable (goal.at.close_file-requires c).After-route_at-r (sym (told (goal.at.close_file-requires c).After-is_ending) ∙ c.if-is_ending.true))
+
+pub put_route-requires : goal.put_route-requires
+put_route-requires c =
+    let l = c.loop-i in
+    let file = c.closed_route-closed.ensures in
+    (l.invariant.1.number, below (goal.at.put_route-requires c).After-route_at-r, omega (arith, ap (λ (r : Route). r.file.opened) file))
+
+pub overflow_add-at : goal.overflow_add-at
+overflow_add-at c =
+    let l = c.loop-i in
+    let n = c.closed_size-size.ensures ∙ ap closed_size (route_is (goal.at.overflow_add-at c).After-route_at-r) in
+    omega (arith, (closable (goal.at.overflow_add-at c).After-route_at-r (sym (told (goal.at.overflow_add-at c).After-is_ending) ∙ c.if-is_ending.true)).room, l.invariant.1.long, n, c.well-formed)
+
+pub overflow_add-files : goal.overflow_add-files
+overflow_add-files c =
+    omega (arith, c.loop-i.invariant.1.few, below (goal.at.overflow_add-files c).After-route_at-r)
+
+pub overflow_add-from : goal.overflow_add-from
+overflow_add-from c =
+    let l = c.loop-i in
+    let m = state (goal.at.overflow_add-from c).Start in
+    let p = c.requires.1 in
+    let limit = ap (λ (r : Route). r.settings.limit) (route_is (goal.at.overflow_add-from c).After-route_at-r) in
+    omega (arith, l.invariant.1.from, limit, region_within m l.i m.count (omega (arith, p.few, c.loop-i-test.true)), p.regions, c.well-formed)
+
+pub overflow_add-i : goal.overflow_add-i
+overflow_add-i c = omega (arith, below (goal.at.overflow_add-i c).After-route_at-r)
+
+pub loop-i-preserved : goal.loop-i-preserved
+loop-i-preserved c =
+    let l = c.loop-i in
+    let a = c.args in
+    let v = l.invariant.1 in
+    let more = c.loop-i-test.true in
+    let limit = ap (λ (r : Route). r.settings.limit) (route_is (goal.at.loop-i-preserved c).After-route_at-r) in
+    ⊎_elim
+    (λ w.
+    let ends_now = sym (told (goal.at.loop-i-preserved c).After-is_ending) ∙ w.0.taken in
+    let able = closable (goal.at.loop-i-preserved c).After-route_at-r ends_now in
+    let reason : w.1.result ≡ end_reason (state (goal.at.loop-i-preserved c).Start) a.t l.i = w.1.ensures ∙ ap (λ (r : Route). cond (due a.t r) 2 0) (route_is (goal.at.loop-i-preserved c).After-route_at-r) in
+    rw (w.12, w.13, w.14, w.15) (
+      l.invariant.0,
+      turn_due _ _ _ _ _ v more ends_now (few (goal.at.loop-i-preserved c).Start) limit (ap (λ (n : ℕ). l.at + n) (w.6.ensures ∙ ap closed_size (route_is (goal.at.loop-i-preserved c).After-route_at-r)))
+          (w.3.ensures
+          ∙ ap (splice l.output l.at)
+          (closed_as (state (goal.at.loop-i-preserved c).Start) a.store.now l.i w.1.result l.invariant.0 (route_is (goal.at.loop-i-preserved c).After-route_at-r) v.from ∙ ap (closed_file (state (goal.at.loop-i-preserved c).Start) a.store.now l.i) reason))
+          (closed_length (state (goal.at.loop-i-preserved c).Start) a.store.now l.i (end_reason (state (goal.at.loop-i-preserved c).Start) a.t l.i) able.records able.filter (twenty a.words.now l.i (below (goal.at.loop-i-preserved c).After-route_at-r)))
+          w.3.kept.1.1.1.1.1.0
+          (w.7.ensures ∙ ap closed_route (route_is (goal.at.loop-i-preserved c).After-route_at-r)) w.9.ensures,
+    ))
+    (λ w. rw (w.1, w.2, w.3, w.4) (l.invariant.0, turn_not _ _ _ _ _ v more limit (sym (told (goal.at.loop-i-preserved c).After-is_ending) ∙ w.0.left)))
+    c.if-is_ending.branch
+
+pub returns : goal.returns
+returns c =
+    let l = c.loop-i in
+    let a = c.args in
+    let m = manager_in a.words.now in
+    let v = l.invariant.1 in
+    let e : l.i ≡ a.n = omega (arith, v.below) in
+    record {
+      words = v.words ∙ ap (λ (k : ℕ). words_of (up_to m a.store.now a.t k).manager) e;
+      count = v.count ∙ ap (λ (k : ℕ). (up_to m a.store.now a.t k).files) e;
+      written = v.written ∙ ap (λ (k : ℕ). splice a.output.now 0 (up_to m a.store.now a.t k).octets) e;
+    }

@@ -1,0 +1,7 @@
+-- `settings::filter_words` meets its contract: four octets of the filter are the word that they spell. Assumes nothing.
+use Rattle.settings.specs.Written.{filter_made}
+use Rattle.settings.proofs.filter_words.Goals as goal
+
+pub returns : goal.returns
+returns c =
+    filter_made c.args.octets.now c.args.k c.num32-a.ensures c.num32-b.ensures c.num32-c.ensures c.num32-d.ensures c.num32-e.ensures

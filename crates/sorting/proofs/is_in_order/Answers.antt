@@ -1,0 +1,28 @@
+use mathlib.Core.Path.{sym, subst, ◌∙◌}
+use mathlib.Core.Bool.{false≢true}
+use Prim.Native.Nat.{◌-◌}
+use native.Mathlib.Omega.{arith}
+use native.Mathlib.Numerals.{add-one}
+use lib.Seq.{take_all}
+use Rattle.recordorder.specs.At.{comes_before, comes_before_total}
+use Rattle.multisets.specs.Passing.{Sorted}
+use Rattle.multisets.specs.Merge.{sorted_more, sorted_short}
+use Rattle.sorting.proofs.is_in_order.Goals as goal
+
+pub loop-i-init : goal.loop-i-init
+loop-i-init c = let a = c.args in (omega arith, omega arith, sorted_short (comes_before a.file.now) a.offsets.now)
+
+pub returns-then-is_mixed : goal.returns-then-is_mixed
+returns-then-is_mixed c = λ e. absurd (false≢true e)
+
+pub loop-i-preserved : goal.loop-i-preserved
+loop-i-preserved c =
+    let a = c.args in
+    let l = c.loop-i in
+    let e = sym c.is_mixed.ensures ∙ c.if-is_mixed.false in
+    (omega arith, omega arith, rw add-one (sorted_more (comes_before a.file.now) (comes_before_total a.file.now) a.offsets.now l.i (omega arith) (omega arith) l.invariant.2 e))
+
+pub returns : goal.returns
+returns c =
+    let a = c.args in
+    λ _. subst (Sorted (comes_before a.file.now)) (take_all c.loop-i.i a.offsets.now (omega arith)) c.loop-i.invariant.2
