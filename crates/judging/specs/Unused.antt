@@ -2,7 +2,7 @@
 use Rattle.std.specs.Prelude.{◌≡◌, Bool, false, ◌&&◌, ◌||◌, List, ℕ, ◌+◌, ◌-◌, ◌%◌, ◌≤◌, ltb, get_or}
 use Rattle.std.proofs.Math.Path.{refl}
 use Rattle.std.proofs.Common.{sym, ap, ◌∙◌, arith}
-use Rattle.std.proofs.Math.Bool.{true, and-true, and_false}
+use Rattle.std.proofs.Math.Bool.{true, and-true, and-false}
 use Rattle.std.proofs.Math.Dec.{eqb}
 use borrow.Author.Tests.{lt-ltb, eqb-true, eq-eqb, ne_eqb}
 use Rattle.refusals.specs.Tests.{both}
@@ -100,7 +100,7 @@ module _ (w k n : ℕ) where
       ap (λ (b : Bool). x && b) (four_zero w ∙ ap (rest_zero w) e) ∙ sym (one_word x w k n)
 
   pub word_not_zero : (x : Bool) → n ≤ k → (w ≡ 0 → ⊥) → false ≡ one_more x w k n
-  word_not_zero x h z = sym (and_false x) ∙ ap (λ (b : Bool). x && b) (sym (ne_eqb w 0 z)) ∙ behind x h
+  word_not_zero x h z = sym (and-false x) ∙ ap (λ (b : Bool). x && b) (sym (ne_eqb w 0 z)) ∙ behind x h
 
   pub word_zero : (x : Bool) → n ≤ k → w ≡ 0 → x ≡ one_more x w k n
   word_zero x h z = sym (and-true x) ∙ ap (λ (b : Bool). x && b) (sym (eq-eqb w 0 z)) ∙ behind x h

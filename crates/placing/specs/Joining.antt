@@ -3,7 +3,7 @@
 -- the route the last append, the count and the octets of its file are others. That is what placing leaves. Assumes nothing.
 use Rattle.std.specs.Prelude.{◌≡◌, refl, Bool, true, false, cond, not, ◌&&◌, ◌||◌, List, ◌++◌, ℕ, ◌+◌, ◌≤◌, ◌<◌, ◌^◌, ltb, leb, eqb, length}
 use Rattle.std.proofs.Common.{sym, ap, ◌∙◌, arith, eqb-true, eq-eqb, ne_eqb, ltb-true, leb-true, le-ltb}
-use Rattle.std.proofs.Math.Bool.{and_false}
+use Rattle.std.proofs.Math.Bool.{and-false}
 use Rattle.std.proofs.lemmas.Bool.{not-true}
 use Rattle.refusals.specs.Tests.{both}
 use Rattle.record.specs.declared.Release.{Release}
@@ -118,7 +118,7 @@ module _ (r : Route) (h : RecordHeader) (n : ℕ) (e : joins r h n ≡ true) whe
   no_difference : differs r h ≡ false
   no_difference =
       (λ i. p1.0 i && p2.0 i && (not (p3.0 i) || (eqb r.settings.flag 1 && not (eq-eqb (rank f.high) (rank h.release) (ap rank high_is) i))))
-      ∙ and_false (eqb r.settings.flag 1)
+      ∙ and-false (eqb r.settings.flag 1)
 
   no_excess : exceeds r h n ≡ false
   no_excess =
@@ -148,7 +148,7 @@ module _ (r : Route) (h : RecordHeader) (n : ℕ) (e : joins r h n ≡ true) whe
       }
 
   not_full : (t : ℕ) → full (joined_route r n t) ≡ false
-  not_full t = ap (λ (b : Bool). ltb 0 r.settings.most && b) (not-true (eqb (r.file.count + 1) r.settings.most) p6.1) ∙ and_false (ltb 0 r.settings.most)
+  not_full t = ap (λ (b : Bool). ltb 0 r.settings.most && b) (not-true (eqb (r.file.count + 1) r.settings.most) p6.1) ∙ and-false (ltb 0 r.settings.most)
 
 -- What placing it leaves is the definition's.
 module _ (r : Route) (a : Arrival) (body : List ℕ) (t : ℕ) (e : joins r (header_for a) (record_size a (length body)) ≡ true) where

@@ -3,7 +3,7 @@
 use Rattle.std.specs.Prelude.{◌≡◌, refl, Bool, true, false, cond, ◌&&◌, ◌||◌, List, [], ◌∷◌, ◌++◌, ℕ, zero, suc, ◌+◌, ◌-◌, ◌*◌, ◌/◌, ◌%◌, ◌≤◌, ◌<◌, ltb, leb, eqb, length, get_or, set}
 use Rattle.std.proofs.Common.{sym, ◌∙◌, subst, arith, add-one, zero-add, length-append, length-set, get_or-set_same, get_or-set_other, ext_get_or, ltb-true, leb-true, eqb-true, eq-eqb, ne_eqb, le-leb, lt-ltb, le-ltb}
 use Rattle.std.proofs.Math.Path.{ap}
-use Rattle.std.proofs.Math.Bool.{and-true, and_false}
+use Rattle.std.proofs.Math.Bool.{and-true, and-false}
 use Rattle.std.proofs.Math.Decide.{ℕ_discrete, dec_lt}
 use Rattle.std.proofs.Math.ListN.{get_or-append, get_or-eq_default}
 use Rattle.std.proofs.lemmas.List.{get_or_at}
@@ -204,7 +204,7 @@ module _ (xs : List ℕ) (j : ℕ) where
   pub set_unknown : routes_in xs ≤ set_route xs j → false ≡ set_time_right xs j
   set_unknown h =
       sym (ap (λ (b : Bool). b && (eqb j 0 || set_follows xs (j - 1) j) && ltb (length (minutes_of xs (set_route xs j) j)) 24)
-      (ap (λ (b : Bool). leb (set_minute_at xs j) 1439 && b) (le-ltb (set_route xs j) (routes_in xs) h) ∙ and_false (leb (set_minute_at xs j) 1439)))
+      (ap (λ (b : Bool). leb (set_minute_at xs j) 1439 && b) (le-ltb (set_route xs j) (routes_in xs) h) ∙ and-false (leb (set_minute_at xs j) 1439)))
 
   pub set_told : set_route xs j < routes_in xs → {minute count : ℕ} {follows : Bool} → minute ≡ set_minute_at xs j → follows ≡ (eqb j 0 || set_follows xs (j - 1) j)
       → count ≡ length (minutes_of xs (set_route xs j) j) → (leb minute 1439 && follows && ltb count 24) ≡ set_time_right xs j

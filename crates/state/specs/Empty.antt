@@ -3,7 +3,7 @@
 use Rattle.std.specs.Prelude.{◌≡◌, refl, Bool, true, false, not, ◌&&◌, ◌||◌, List, [], ◌∷◌, ◌++◌, ℕ, eqb, take, drop}
 use Rattle.std.proofs.Common.{sym, ◌∙◌, eq-eqb, ne_eqb}
 use Rattle.std.proofs.Math.Path.{ap}
-use Rattle.std.proofs.Math.Bool.{and-true, and_false}
+use Rattle.std.proofs.Math.Bool.{and-true, and-false}
 use Rattle.refusals.specs.Tests.{all_of}
 use Rattle.state.specs.declared.RouteSettings.{RouteSettings}
 use Rattle.state.specs.declared.OpenFile.{OpenFile}
@@ -33,7 +33,7 @@ left_out false y a b d e = refl
 put_last : (x y a b d e : Bool) → (x && y && (a && b && d && e)) ≡ between true x a b d e y
 put_last false y a b d e = refl
 put_last true true a b d e = sym (and-true (a && b && d && e))
-put_last true false a b d e = sym (and_false (a && b && d && e))
+put_last true false a b d e = sym (and-false (a && b && d && e))
 
 module _ (last : ℕ) (s : RouteSettings) (f : OpenFile) where
   abbrev first : Bool

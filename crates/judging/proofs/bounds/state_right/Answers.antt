@@ -1,7 +1,7 @@
 -- `judging::bounds::state_right` meets its contract: a count above 8 is against the definition's second test, and otherwise its
 -- seven tests are the definition's. Assumes nothing.
 use mathlib.Core.Path.{◌≡◌, ap, ◌∙◌}
-use mathlib.Core.Bool.{false, ◌&&◌, and_false}
+use mathlib.Core.Bool.{false, ◌&&◌, and-false}
 use native.Mathlib.Omega.{arith}
 use lib.Dec.{leb}
 use lib.ListN.{get_or}
@@ -17,7 +17,7 @@ returns-then-n-gt8 c =
     let n = c.count_of-n in
     let m = manager_in c.args.words.now in
     let many : leb m.count 8 ≡ false = lt-leb m.count 8 (omega (arith, n.ensures, c.if-n-gt8.true)) in
-    rw (many, and_false)
+    rw (many, and-false)
 
 pub returns : goal.returns
 unfolding state_right manager_in
