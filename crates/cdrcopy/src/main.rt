@@ -3,7 +3,8 @@
 ghost use Rattle.writer.specs.Writer.{after};
 ghost use Rattle.cdrcopy.specs.Copy.{Rewrites};
 
-use libc::{STDIN_FILENO, STDOUT_FILENO};
+use std::io::{Stdin, Stdout};
+use streams::{read_full, read_some, write_all, write_decimal};
 use writer::Written;
 
 // Writes over the start of the output what the reader hands back of a file: the same octets, if the output is long enough. The answer is
@@ -25,40 +26,40 @@ fn rewrite(file: &[u8], output: &mut [u8]) -> Written
 }
 
 // The line of a refusal.
-fn print_refusal(number: u8) -> bool {
-    io::write_all(STDOUT_FILENO, b"E ")
-        && io::print_decimal(STDOUT_FILENO, number as u64)
-        && io::write_all(STDOUT_FILENO, b"\n")
+fn print_refusal(stdout: Stdout, number: u8) -> bool {
+    write_all(stdout, b"E ")
+        && write_decimal(stdout, number as u64)
+        && write_all(stdout, b"\n")
 }
 
 // Writes a file again to standard output, or the line of its refusal.
-fn copy(file: &[u8], output: &mut [u8]) {
+fn copy(stdout: Stdout, file: &[u8], output: &mut [u8]) {
     let w = rewrite(file, output);
     if w.refusal != 0 {
-        print_refusal(w.refusal);
+        print_refusal(stdout, w.refusal);
         return;
     }
-    io::write_all(STDOUT_FILENO, &output[..w.octets]);
+    write_all(stdout, &output[..w.octets]);
 }
 
 // Whether one octet more can be read from standard input.
-fn goes_on() -> bool {
+fn goes_on(stdin: Stdin) -> bool {
     let mut next = [0u8; 1];
-    libc::read(STDIN_FILENO, &mut next) > 0
+    read_some(stdin, &mut next) > 0
 }
 
 // Reads the input, and copies it if it ends within the buffer.
-fn run(buffer: &mut [u8], output: &mut [u8]) {
-    let n = io::read_full(STDIN_FILENO, buffer);
-    if n == buffer.len() && goes_on() {
-        print_refusal(8);
+fn run(stdin: Stdin, stdout: Stdout, buffer: &mut [u8], output: &mut [u8]) {
+    let n = read_full(stdin, buffer);
+    if n == buffer.len() && goes_on(stdin) {
+        print_refusal(stdout, 8);
         return;
     }
-    copy(&buffer[..n], output);
+    copy(stdout, &buffer[..n], output);
 }
 
-fn main() {
+fn main(rt: HostRuntime) {
     let mut buffer = io::large_buffer();
     let mut output = io::large_buffer();
-    run(&mut buffer, &mut output);
+    run(rt.stdin(), rt.stdout(), &mut buffer, &mut output);
 }

@@ -3,7 +3,7 @@ mod happening;
 mod packets;
 mod replay;
 
-fn main() {
+fn main(rt: HostRuntime) {
     let mut input = io::large_buffer();
     let mut line = gatescript::line();
     let mut octets = gatescript::half_mebibyte();
@@ -12,6 +12,8 @@ fn main() {
     let mut output = gatescript::half_mebibyte();
     let mut page = io::large_buffer();
     replay::replay(
+        rt.stdin(),
+        rt.stdout(),
         &mut input,
         &mut line,
         &mut octets,

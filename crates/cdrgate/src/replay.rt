@@ -2,6 +2,7 @@
 use crate::happening::lent_answer_of;
 use crate::packets::{packet_in, take};
 use gatesteps::{Run, Turn, answered, start, take_turn};
+use std::io::{Stdin, Stdout};
 use textlines::{finish, turns_of};
 
 // Has the turn's event answered by the manager, or its packet taken, and the answer printed.
@@ -25,6 +26,8 @@ fn happen(
 
 // Replays the script.
 pub fn replay(
+    stdin: Stdin,
+    stdout: Stdout,
     input: &mut [u8],
     line: &mut [u8],
     octets: &mut [u8],
@@ -33,7 +36,7 @@ pub fn replay(
     output: &mut [u8],
     page: &mut [u8],
 ) {
-    let mut run = start();
+    let mut run = start(stdin, stdout);
     let mut number: u64 = 0;
     while number < turns_of(run.is_going, run.printer) {
         number += 1;

@@ -1,45 +1,46 @@
 // Lists a CDR file of up to 65,536 octets that stands on standard input: a line F for the file and a line R for each record, or
 // a line E with the refusal.
-use libc::{STDIN_FILENO, STDOUT_FILENO};
 use reader::Contents;
+use std::io::{Stdin, Stdout};
+use streams::{read_full, read_some, write_all, write_decimal};
 
-// Writes a space and a number, and answers as `io::write_all` does.
-fn print_field(n: u64) -> bool {
-    io::write_all(STDOUT_FILENO, b" ") && io::print_decimal(STDOUT_FILENO, n)
+// Writes a space and a number, and answers as `write_all` does.
+fn print_field(stdout: Stdout, n: u64) -> bool {
+    write_all(stdout, b" ") && write_decimal(stdout, n)
 }
 
-fn print_end() -> bool {
-    io::write_all(STDOUT_FILENO, b"\n")
+fn print_end(stdout: Stdout) -> bool {
+    write_all(stdout, b"\n")
 }
 
 // The line of a refusal.
-fn print_refusal(number: u8) -> bool {
-    io::write_all(STDOUT_FILENO, b"E") && print_field(number as u64) && print_end()
+fn print_refusal(stdout: Stdout, number: u8) -> bool {
+    write_all(stdout, b"E") && print_field(stdout, number as u64) && print_end(stdout)
 }
 
 // The line of a record: its index, the offset of its header, the length of its body.
-fn print_record(index: usize, at: usize, body: usize) -> bool {
-    io::write_all(STDOUT_FILENO, b"R")
-        && print_field(index as u64)
-        && print_field(at as u64)
-        && print_field(body as u64)
-        && print_end()
+fn print_record(stdout: Stdout, index: usize, at: usize, body: usize) -> bool {
+    write_all(stdout, b"R")
+        && print_field(stdout, index as u64)
+        && print_field(stdout, at as u64)
+        && print_field(stdout, body as u64)
+        && print_end(stdout)
 }
 
 // The line of a file: length, header length, number of records, sequence number, closure reason, lost indicator.
-fn print_file(length: usize, c: Contents) -> bool {
-    io::write_all(STDOUT_FILENO, b"F")
-        && print_field(length as u64)
-        && print_field(c.records.start as u64)
-        && print_field(c.count as u64)
-        && print_field(c.header.sequence as u64)
-        && print_field(c.header.reason as u64)
-        && print_field(c.header.lost as u64)
-        && print_end()
+fn print_file(stdout: Stdout, length: usize, c: Contents) -> bool {
+    write_all(stdout, b"F")
+        && print_field(stdout, length as u64)
+        && print_field(stdout, c.records.start as u64)
+        && print_field(stdout, c.count as u64)
+        && print_field(stdout, c.header.sequence as u64)
+        && print_field(stdout, c.header.reason as u64)
+        && print_field(stdout, c.header.lost as u64)
+        && print_end(stdout)
 }
 
 // The lines of so many records, of which the first stands at `start`. A write that fails ends them.
-fn list_records(file: &[u8], start: usize, count: usize) {
+fn list_records(stdout: Stdout, file: &[u8], start: usize, count: usize) {
     let mut at = start;
     let mut index: usize = 0;
     while index < count {
@@ -47,7 +48,7 @@ fn list_records(file: &[u8], start: usize, count: usize) {
         if s.refusal != 0 {
             return;
         }
-        if !print_record(index, at, s.body) {
+        if !print_record(stdout, index, at, s.body) {
             return;
         }
         at += s.header + s.body;
@@ -56,34 +57,34 @@ fn list_records(file: &[u8], start: usize, count: usize) {
 }
 
 // The lines of a file, or of its refusal.
-fn list(file: &[u8]) {
+fn list(stdout: Stdout, file: &[u8]) {
     let c = reader::read(file);
     if c.refusal != 0 {
-        print_refusal(c.refusal);
+        print_refusal(stdout, c.refusal);
         return;
     }
-    if print_file(file.len(), c) {
-        list_records(file, c.records.start, c.count);
+    if print_file(stdout, file.len(), c) {
+        list_records(stdout, file, c.records.start, c.count);
     }
 }
 
 // Whether one octet more can be read from standard input.
-fn goes_on() -> bool {
+fn goes_on(stdin: Stdin) -> bool {
     let mut next = [0u8; 1];
-    libc::read(STDIN_FILENO, &mut next) > 0
+    read_some(stdin, &mut next) > 0
 }
 
 // Reads the input, and lists it if it ends within the buffer.
-fn run(buffer: &mut [u8]) {
-    let n = io::read_full(STDIN_FILENO, buffer);
-    if n == buffer.len() && goes_on() {
-        print_refusal(8);
+fn run(stdin: Stdin, stdout: Stdout, buffer: &mut [u8]) {
+    let n = read_full(stdin, buffer);
+    if n == buffer.len() && goes_on(stdin) {
+        print_refusal(stdout, 8);
         return;
     }
-    list(&buffer[..n]);
+    list(stdout, &buffer[..n]);
 }
 
-fn main() {
+fn main(rt: HostRuntime) {
     let mut buffer = io::large_buffer();
-    run(&mut buffer);
+    run(rt.stdin(), rt.stdout(), &mut buffer);
 }

@@ -3,9 +3,9 @@ mod answers;
 mod asked;
 mod run;
 
-fn main() {
+fn main(rt: HostRuntime) {
     let mut input = io::large_buffer();
     let mut line = [0u8; 4096];
     let mut page = io::large_buffer();
-    run::answer_all(&mut input, &mut line, &mut page);
+    run::answer_all(rt.stdin(), rt.stdout(), &mut input, &mut line, &mut page);
 }

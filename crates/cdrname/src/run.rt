@@ -1,6 +1,7 @@
 // A run: the lines in order, each answered, up to a wrong one.
 use crate::answers::{print_read, print_written};
 use crate::asked::{Asked, asked_by};
+use std::io::{Stdin, Stdout};
 use textlines::{LINES, Printer, Source, Taken, finish, part, take_line, turns_of};
 
 // What is left of the input's buffer, what stands on the page, whether lines go on, and whether a wrong one ended them.
@@ -12,10 +13,15 @@ struct Run {
     is_wrong: bool,
 }
 
-fn start() -> Run {
+fn start(stdin: Stdin, stdout: Stdout) -> Run {
     Run {
-        source: Source { at: 0, end: 0 },
+        source: Source {
+            stdin: stdin,
+            at: 0,
+            end: 0,
+        },
         printer: Printer {
+            stdout: stdout,
             fill: 0,
             works: true,
         },
@@ -69,8 +75,8 @@ fn turn(run: Run, number: u64, input: &mut [u8], line: &mut [u8], page: &mut [u8
     }
 }
 
-pub fn answer_all(input: &mut [u8], line: &mut [u8], page: &mut [u8]) {
-    let mut run = start();
+pub fn answer_all(stdin: Stdin, stdout: Stdout, input: &mut [u8], line: &mut [u8], page: &mut [u8]) {
+    let mut run = start(stdin, stdout);
     let mut number: u64 = 0;
     while number < turns_of(run.is_going, run.printer) {
         number += 1;

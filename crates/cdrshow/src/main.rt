@@ -2,10 +2,10 @@
 mod memory;
 mod replay;
 
-fn main() {
+fn main(rt: HostRuntime) {
     let mut buffer = memory::file_and_more();
     let mut line = memory::longest_line();
     let mut octets = io::large_buffer();
     let mut page = io::large_buffer();
-    replay::show(&mut buffer, &mut line, &mut octets, &mut page);
+    replay::show(rt.stdin(), rt.stdout(), &mut buffer, &mut line, &mut octets, &mut page);
 }

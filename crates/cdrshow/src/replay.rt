@@ -1,12 +1,12 @@
 // What stands on standard input, in words: a file, where its first octet is 0, or the lines of a replay.
 ghost use Rattle.std.specs.Prelude.{◌≤◌, length};
 
-use libc::STDIN_FILENO;
 use showanswers::{
     octets_of, one_of, print_answer, print_malformed, print_packet, print_route, print_settings,
     print_state, six_of, two_of,
 };
 use showfile::print_file;
+use std::io::{Stdin, Stdout};
 use textlines::{
     LINES, Printer, Source, Taken, finish, flush, has_line, part, refill, take_line, turns_of,
 };
@@ -195,35 +195,47 @@ fn replay(first: Run, buffer: &mut [u8], line: &mut [u8], octets: &mut [u8], pag
     finish(page, run.printer, run.is_wrong, number);
 }
 
-fn blank() -> Printer {
+fn blank(stdout: Stdout) -> Printer {
     Printer {
+        stdout: stdout,
         fill: 0,
         works: true,
     }
 }
 
 // Says a file, of which the buffer has the first octets.
-fn show_file(buffer: &mut [u8], end: usize, page: &mut [u8])
+fn show_file(stdin: Stdin, stdout: Stdout, buffer: &mut [u8], end: usize, page: &mut [u8])
     requires { end ≤ length buffer.old }
 {
-    let more = io::read_full(STDIN_FILENO, &mut buffer[end..]);
-    let p = print_file(page, blank(), b"", part(buffer, 0, end + more));
+    let more = streams::read_full(stdin, &mut buffer[end..]);
+    let p = print_file(page, blank(stdout), b"", part(buffer, 0, end + more));
     flush(page, p);
 }
 
-pub fn show(buffer: &mut [u8], line: &mut [u8], octets: &mut [u8], page: &mut [u8]) {
-    let end = refill(buffer);
+pub fn show(
+    stdin: Stdin,
+    stdout: Stdout,
+    buffer: &mut [u8],
+    line: &mut [u8],
+    octets: &mut [u8],
+    page: &mut [u8],
+) {
+    let end = refill(stdin, buffer);
     if end == 0 {
-        finish(page, blank(), true, 1);
+        finish(page, blank(stdout), true, 1);
         return;
     }
     if buffer[0] == 0 {
-        show_file(buffer, end, page);
+        show_file(stdin, stdout, buffer, end, page);
         return;
     }
     let run = Run {
-        source: Source { at: 0, end: end },
-        printer: blank(),
+        source: Source {
+            stdin: stdin,
+            at: 0,
+            end: end,
+        },
+        printer: blank(stdout),
         is_going: true,
         is_wrong: false,
     };

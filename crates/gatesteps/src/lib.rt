@@ -6,6 +6,7 @@ ghost use Rattle.std.specs.Prelude.{◌≡◌, length};
 
 use gateanswers::{print_settings, print_state};
 use gatescript::clear;
+use std::io::{Stdin, Stdout};
 use textlines::{Printer, Source};
 pub use turns::{Turn, answered, take_turn};
 
@@ -28,14 +29,19 @@ pub struct Run {
 }
 
 // No script has begun.
-pub fn start() -> Run {
+pub fn start(stdin: Stdin, stdout: Stdout) -> Run {
     Run {
         is_set: false,
         is_fresh: false,
         store: 0,
         width: WIDTH,
-        source: Source { at: 0, end: 0 },
+        source: Source {
+            stdin: stdin,
+            at: 0,
+            end: 0,
+        },
         printer: Printer {
+            stdout: stdout,
             fill: 0,
             works: true,
         },

@@ -2,11 +2,12 @@
 ghost use Rattle.std.specs.Prelude.{◌≤◌, length};
 
 use crate::parts::{find, part};
-use libc::STDIN_FILENO;
+use std::io::Stdin;
 
-// What is left of the buffer: the octets from `at` to `end`.
+// The input that the buffer is filled from, and what is left of the buffer: the octets from `at` to `end`.
 #[derive(Clone, Copy)]
 pub struct Source {
+    pub stdin: Stdin,
     pub at: usize,
     pub end: usize,
 }
@@ -27,28 +28,35 @@ pub enum Taken {
     Long,
 }
 
-// Fills the buffer anew and answers how many octets came: none at the end of the input.
-pub fn refill(input: &mut [u8]) -> usize
+// Fills the buffer anew and answers how many octets came: none at the end of the input, or where it cannot be read.
+pub fn refill(stdin: Stdin, input: &mut [u8]) -> usize
     ensures { result ≤ length input.new }
 {
-    let got = libc::read(STDIN_FILENO, input);
-    io::count(got, input)
+    streams::read_some(stdin, input)
 }
 
 // The first octet of a buffer that was just filled.
-fn next_filled(input: &mut [u8]) -> Next {
-    let end = refill(input);
+fn next_filled(stdin: Stdin, input: &mut [u8]) -> Next {
+    let end = refill(stdin, input);
     if 0 < end {
         return Next {
             ended: false,
             octet: input[0],
-            source: Source { at: 1, end: end },
+            source: Source {
+                stdin: stdin,
+                at: 1,
+                end: end,
+            },
         };
     }
     Next {
         ended: true,
         octet: 0,
-        source: Source { at: 0, end: 0 },
+        source: Source {
+            stdin: stdin,
+            at: 0,
+            end: 0,
+        },
     }
 }
 
@@ -60,13 +68,14 @@ fn next_octet(input: &mut [u8], s: Source) -> Next {
                 ended: false,
                 octet: input[at],
                 source: Source {
+                    stdin: s.stdin,
                     at: at + 1,
                     end: s.end,
                 },
             };
         }
     }
-    next_filled(input)
+    next_filled(s.stdin, input)
 }
 
 // Takes the next line, without its LF, to the start of `line`. The last one may lack its LF.

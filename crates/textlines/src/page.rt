@@ -1,19 +1,21 @@
 // The lines that are printed. They are collected on a page, which is written to standard output when it is full.
 use crate::parts::part;
-use libc::STDOUT_FILENO;
 use numerals::hex_digit;
+use std::io::Stdout;
 
-// How many octets stand on the page, and whether every page so far was written.
+// Where a full page is written, how many octets stand on the page, and whether every page so far was written.
 #[derive(Clone, Copy)]
 pub struct Printer {
+    pub stdout: Stdout,
     pub fill: usize,
     pub works: bool,
 }
 
 // Writes out what stands on the page.
 pub fn flush(page: &mut [u8], p: Printer) -> Printer {
-    let works = io::write_all(STDOUT_FILENO, part(page, 0, p.fill));
+    let works = streams::write_all(p.stdout, part(page, 0, p.fill));
     Printer {
+        stdout: p.stdout,
         fill: 0,
         works: p.works & works,
     }
@@ -24,6 +26,7 @@ pub fn put(page: &mut [u8], p: Printer, octet: u8) -> Printer {
     if at < page.len() {
         page[at] = octet;
         return Printer {
+            stdout: p.stdout,
             fill: at + 1,
             works: p.works,
         };
@@ -37,6 +40,7 @@ fn put_first(page: &mut [u8], p: Printer, octet: u8) -> Printer {
     if 0 < page.len() {
         page[0] = octet;
         return Printer {
+            stdout: p.stdout,
             fill: 1,
             works: q.works,
         };
