@@ -46,18 +46,19 @@ share-s-requires c =
     let u = c.read-c.ensures in
     let v = c.read-d.ensures in
     let a : c.read-c.result.records.start ≡ (read_of f).records.start = ap (λ (r : Contents). r.records.start) u in
-    let b : c.read-d.result.records.start ≡ (read_of g).records.start = ap (λ (r : Contents). r.records.start) v in (
-      (
+    let b : c.read-d.result.records.start ≡ (read_of g).records.start = ap (λ (r : Contents). r.records.start) v in
+    record {
+      a_in_bounds = (
         omega (arith, a, start_within f (accepted_first c)),
         file_short f (accepted_first c),
         ap (λ (n : ℕ). length (offsets_of f n)) a ∙ offsets_counted f (accepted_first c) (octets_first c) ∙ sym (ap (λ (r : Contents). r.count) u),
-      ),
-      (
+      );
+      b_in_bounds = (
         omega (arith, b, start_within g (accepted_second c)),
         file_short g (accepted_second c),
         ap (λ (n : ℕ). length (offsets_of g n)) b ∙ offsets_counted g (accepted_second c) (octets_second c) ∙ sym (ap (λ (r : Contents). r.count) v),
-      ),
-    )
+      );
+    }
 
 pub returns : goal.returns
 returns c =

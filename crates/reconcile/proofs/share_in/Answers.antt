@@ -6,7 +6,7 @@ use Prim.Native.Nat.{ℕ}
 use lib.ListN.{length, take, length-take}
 use Rattle.reconcile.specs.Shares.{most_first, most_second, shares}
 use Rattle.reconcile.proofs.share_in.Goals as goal
-use Rattle.reconcile.proofs.share_in.Goals.{After-arranged_offsets-n, After-count_both-both, Start}
+use Rattle.reconcile.proofs.share_in.Goals.{After-count_both-both}
 
 pub slice_bounds-count_both-end-2 : goal.slice_bounds-count_both-end-2
 slice_bounds-count_both-end-2 c = simp length-take (omega arith)
@@ -14,37 +14,31 @@ slice_bounds-count_both-end-2 c = simp length-take (omega arith)
 pub slice_bounds-count_both-end-4 : goal.slice_bounds-count_both-end-4
 slice_bounds-count_both-end-4 c = simp length-take (omega arith)
 
-abbrev firstArranged : goal.After-count_both-both → goal.After-arranged_offsets-n
-firstArranged c = c.After-arranged_offsets-n
-
-abbrev start : goal.After-count_both-both → goal.Start
-start c = (firstArranged c).before.before.before.before.before.before.before.before
-
 -- the two lists of offsets
 abbrev xs : goal.After-count_both-both → List ℕ
-xs c = let p = (firstArranged c).arranged-offsets in take p.result p.last.1.1.0
+xs c = let p = c.arranged_offsets-n in take p.result p.new.out
 
 abbrev ys : goal.After-count_both-both → List ℕ
-ys c = let q = c.arranged_offsets-m in take q.result q.last.1.1.0
+ys c = let q = c.arranged_offsets-m in take q.result q.new.out
 
 pub overflow_sub-result : goal.overflow_sub-result
 overflow_sub-result c =
-    let a = (start c).args in
-    let p = (firstArranged c).arranged-offsets in
+    let a = c.args in
+    let p = c.arranged_offsets-n in
     let q = c.arranged_offsets-m in
-    omega (arith, most_first a.f.now a.a a.g.now a.b (xs c) (ys c) p.ensures.1 q.ensures.1, c.count_both-both.ensures, length-take p.result p.last.1.1.0)
+    omega (arith, most_first a.f.now a.a a.g.now a.b (xs c) (ys c) p.ensures.1 q.ensures.1, c.count_both-both.ensures, length-take p.result p.new.out)
 
 pub overflow_sub-result-2 : goal.overflow_sub-result-2
 overflow_sub-result-2 c =
-    let a = (start c).args in
-    let p = (firstArranged c).arranged-offsets in
+    let a = c.args in
+    let p = c.arranged_offsets-n in
     let q = c.arranged_offsets-m in
-    omega (arith, most_second a.f.now a.a a.g.now a.b (xs c) (ys c) p.ensures.1 q.ensures.1, c.count_both-both.ensures, length-take q.result q.last.1.1.0)
+    omega (arith, most_second a.f.now a.a a.g.now a.b (xs c) (ys c) p.ensures.1 q.ensures.1, c.count_both-both.ensures, length-take q.result q.new.out)
 
 pub returns : goal.returns
 returns c =
-    let a = (start c).args in
-    let p = (firstArranged c).arranged-offsets in
+    let a = c.args in
+    let p = c.arranged_offsets-n in
     let q = c.arranged_offsets-m in
     let n : p.result ≡ length (xs c) = simp length-take (omega arith) in
     let m : q.result ≡ length (ys c) = simp length-take (omega arith) in

@@ -8,4 +8,4 @@ share_in-requires c =
     let a = c.args in
     let m = offsets_most a.f.now a.a in
     let n = offsets_most a.g.now a.b in
-    ((search rules, search rules, search rules, search rules), (search rules, search rules, search rules, search rules))
+    record { a_in_bounds = (search rules, search rules, search rules, search rules); b_in_bounds = (search rules, search rules, search rules, search rules) }
