@@ -86,7 +86,6 @@ overflow_add-used c =
       length-drop l.used l.output,
       l.invariant.room,
       l.invariant.wide,
-      c.well-formed.1.1.0.0,
     )
 
 pub size_at-size-requires : goal.size_at-size-requires
@@ -94,7 +93,7 @@ size_at-size-requires c = omega (arith, taking_fits c.loop-i.invariant (more (go
 
 pub overflow_add-at : goal.overflow_add-at
 overflow_add-at c =
-    omega (arith, c.size_at-size.ensures.0, taking_fits c.loop-i.invariant (more (goal.at.overflow_add-at c).After-take_at-answer), c.well-formed.1.1.1.0.0)
+    omega (arith, c.size_at-size.ensures.0, taking_fits c.loop-i.invariant (more (goal.at.overflow_add-at c).After-take_at-answer))
 
 pub overflow_add-i : goal.overflow_add-i
 overflow_add-i c = omega (arith, low (goal.at.overflow_add-i c).After-take_at-answer)

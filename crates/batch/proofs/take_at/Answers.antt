@@ -12,13 +12,13 @@ fits : (n : goal.After-num32-body) → n.args.at + 15 + get_or n.args.packet.now
 fits n = omega (arith, size_at n.args.packet.now n.args.at refl n.num32-body.ensures, n.requires.2)
 
 pub overflow_add-to : goal.overflow_add-to
-overflow_add-to c = omega (arith, fits c, c.well-formed.1.1.1.0.0)
+overflow_add-to c = omega (arith, fits c)
 
 pub slice_bounds-take-end : goal.slice_bounds-take-end
 slice_bounds-take-end c = let f = fits (goal.at.slice_bounds-take-end c).After-num32-body in omega arith
 
 pub overflow_add-to-2 : goal.overflow_add-to-2
-overflow_add-to-2 c = omega (arith, fits (goal.at.overflow_add-to-2 c).After-num32-body, c.well-formed.1.1.1.0.0)
+overflow_add-to-2 c = omega (arith, fits (goal.at.overflow_add-to-2 c).After-num32-body)
 
 pub slice_bounds-take-end-2 : goal.slice_bounds-take-end-2
 slice_bounds-take-end-2 c = let f = fits (goal.at.slice_bounds-take-end-2 c).After-num32-body in omega arith
