@@ -1,4 +1,6 @@
 // A CDR file: the fields of its header, and its octets laid out over the start of an output.
+#![tactic(auto)]
+
 ghost use Rattle.std.specs.Prelude.{◌≡◌, ◌+◌, ◌≤◌, ◌<◌, length};
 ghost use Rattle.octets.specs.Splice.{splice};
 ghost use Rattle.record.specs.Release.{release_octet, extension_octets};

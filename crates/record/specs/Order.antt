@@ -102,7 +102,7 @@ pub record Least (rs : List Record) (n : ℕ) : Type 0 where
 -- `highest` is the greatest.
 high_bound : (rs : List Record) (r : Record) → Memᴰ r rs → rank r.header.release ≤ highest rs
 unfolding highest
-high_bound [] r i = absurd (Memᴰ.not_nil i)
+high_bound [] r i = absurd (Memᴰ.not-nil i)
 high_bound (s ∷ rs) r i =
     ⊎_elim
     (λ (e : r ≡ s). let q : rank r.header.release ≡ rank s.header.release = ap (λ (t : Record). rank t.header.release) e in omega (arith, q))
@@ -128,7 +128,7 @@ highest_greatest (s ∷ (t ∷ rs)) some =
 -- `lowest` is the least.
 low_bound : (rs : List Record) (r : Record) → Memᴰ r rs → lowest rs ≤ rank r.header.release
 unfolding lowest
-low_bound [] r i = absurd (Memᴰ.not_nil i)
+low_bound [] r i = absurd (Memᴰ.not-nil i)
 low_bound (s ∷ rs) r i =
     ⊎_elim
     (λ (e : r ≡ s). let q : rank r.header.release ≡ rank s.header.release = ap (λ (t : Record). rank t.header.release) e in omega (arith, q))

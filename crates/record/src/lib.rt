@@ -1,4 +1,6 @@
 // Records: the record header, the step over the part of a file that starts at a cursor, the order of releases, and the walk.
+#![tactic(auto)]
+
 ghost use Rattle.std.specs.Prelude.{◌≡◌, ◌≤◌, max, min, length};
 ghost use Rattle.record.specs.Release.{narrow_release, rank, header_length};
 ghost use Rattle.record.specs.Step.{step_of, step_at, body_at, header_at, fields_of, refused_step};

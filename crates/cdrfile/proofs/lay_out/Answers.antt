@@ -35,25 +35,25 @@ pub copy-requires : goal.copy-requires
 copy-requires c = omega (arith, sizes (goal.at.copy-requires c).Start, fifty _ _ _ _ _ c.fixed_octets-fixed.ensures)
 
 pub copy-requires-2 : goal.copy-requires-2
-copy-requires-2 c = omega (arith, sizes (goal.at.copy-requires-2 c).Start, c.copy.auto.0)
+copy-requires-2 c = omega (arith, sizes (goal.at.copy-requires-2 c).Start, c.copy.auto.dst)
 
 pub put_private-requires : goal.put_private-requires
-put_private-requires c = omega (arith, sizes (goal.at.put_private-requires c).Start, c.copy.auto.0, c.copy-2.auto.0)
+put_private-requires c = omega (arith, sizes (goal.at.put_private-requires c).Start, c.copy.auto.dst, c.copy-2.auto.dst)
 
 pub private_length-requires : goal.private_length-requires
 private_length-requires c = let z = sizes (goal.at.private_length-requires c).Start in omega (arith, z)
 
 pub put_extension-requires : goal.put_extension-requires
 put_extension-requires c =
-    omega (arith, sizes (goal.at.put_extension-requires c).Start, c.copy.auto.0, c.copy-2.auto.0, c.put_private.auto.0, c.private_length.ensures.0)
+    omega (arith, sizes (goal.at.put_extension-requires c).Start, c.copy.auto.dst, c.copy-2.auto.dst, c.put_private.auto.output, c.private_length.ensures.0)
 
 pub put_extension-requires-2 : goal.put_extension-requires-2
 put_extension-requires-2 c =
-    omega (arith, sizes (goal.at.put_extension-requires-2 c).Start, c.copy.auto.0, c.copy-2.auto.0, c.put_private.auto.0, c.put_extension.auto.0, c.private_length.ensures.0, c.extension_length.ensures.0)
+    omega (arith, sizes (goal.at.put_extension-requires-2 c).Start, c.copy.auto.dst, c.copy-2.auto.dst, c.put_private.auto.output, c.put_extension.auto.output, c.private_length.ensures.0, c.extension_length.ensures.0)
 
 pub copy-requires-3 : goal.copy-requires-3
 copy-requires-3 c =
-    omega (arith, sizes (goal.at.copy-requires-3 c).Start, c.copy.auto.0, c.copy-2.auto.0, c.put_private.auto.0, c.put_extension.auto.0, c.put_extension-2.auto.0, c.header_length-header.ensures)
+    omega (arith, sizes (goal.at.copy-requires-3 c).Start, c.copy.auto.dst, c.copy-2.auto.dst, c.put_private.auto.output, c.put_extension.auto.output, c.put_extension-2.auto.output, c.header_length-header.ensures)
 
 pub returns : goal.returns
 returns c =

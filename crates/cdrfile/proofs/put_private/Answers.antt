@@ -20,7 +20,7 @@ copy-requires c =
 
 pub copy-requires-2 : goal.copy-requires-2
 copy-requires-2 c =
-    omega (arith, c.requires, c.copy.auto.0, private_some_length c.args.statement c.args.private.now c.if-statement-eq0.false)
+    omega (arith, c.requires, c.copy.auto.dst, private_some_length c.args.statement c.args.private.now c.if-statement-eq0.false)
 
 pub returns : goal.returns
 returns c =

@@ -4,7 +4,7 @@ use native.Mathlib.Omega.{arith}
 use Rattle.record.proofs.extension_of.Goals as goal
 
 pub bounds-part-4 : goal.bounds-part-4
-bounds-part-4 c = let h = simp (eq-eqb _ _ c.if-part-eq7.true) at c.requires.0 in omega (arith, h)
+bounds-part-4 c = let h = simp (eq-eqb _ _ c.if-part-eq7.true) at c.requires.part_in_bounds in omega (arith, h)
 
 pub returns-then-part-eq7 : goal.returns-then-part-eq7
 returns-then-part-eq7 c = simp (eq-eqb _ _ c.if-part-eq7.true)

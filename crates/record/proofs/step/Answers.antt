@@ -15,11 +15,11 @@ long : (c : goal.After-num16-body) → 4 ≤ length (part c)
 long c = omega arith
 
 -- the body's length is not the reserved one
-usual : (c : goal.After-header_length-header) → body_length_at (part c.After-num16-body) ≡ 65535 → ⊥
+usual : (c : goal.After-header_length-header) → body_length_at c.args.part.now ≡ 65535 → ⊥
 usual c e = c.if-body-eq65535.false (c.num16-body.ensures ∙ e)
 
 -- header and body together, as the code and as the definition add them
-total : (c : goal.After-header_length-header) → c.header_length-header.result + c.num16-body.result ≡ record_length_at (part c.After-num16-body)
+total : (c : goal.After-header_length-header) → c.header_length-header.result + c.num16-body.result ≡ record_length_at c.args.part.now
 total c = λ i. c.header_length-header.ensures.0 i + c.num16-body.ensures i
 
 pub returns-then-part-lt4 : goal.returns-then-part-lt4

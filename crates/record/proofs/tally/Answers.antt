@@ -1,6 +1,6 @@
 use mathlib.Core.Path.{◌∙◌, ap}
 use mathlib.Core.List.{List}
-use Prim.Native.Nat.{ℕ, ◌-◌, max, min}
+use Prim.Native.Nat.{ℕ, max, min}
 use native.Mathlib.Omega.{arith}
 use lib.ListN.{length-take, length-drop}
 use Rattle.record.specs.Step.{Taken, taken, untaken}

@@ -1,6 +1,5 @@
 -- `record::tally` meets its contract. The invariant: the records passed are counted, and a walk of the rest from there says
 -- what a walk of the whole says. Assumes nothing.
-use Prim.Native.Nat.{◌-◌}
 use lib.ListN.{length}
 use Rattle.record.specs.Walk.{Walking}
 use Rattle.record.proofs.tally.Given as goal
