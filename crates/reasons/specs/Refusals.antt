@@ -10,8 +10,8 @@ file_rows =
     8 is "its length"
     ∷ 9 is "its header length"
     ∷ 10 is "a timestamp or a reserved length"
-    ∷ 11 is "a record is cut or has the reserved length"
-    ∷ 12 is "its count of records"
+    ∷ 11 is "a record"
+    ∷ 12 is "its count"
     ∷ 13 is "its high or low release"
     ∷ []
 

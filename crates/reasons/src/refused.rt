@@ -14,8 +14,8 @@ fn lay_file_words(page: &mut [u8], at: usize, number: u8) -> usize
         8 => lay(page, at, b"its length"),
         9 => lay(page, at, b"its header length"),
         10 => lay(page, at, b"a timestamp or a reserved length"),
-        11 => lay(page, at, b"a record is cut or has the reserved length"),
-        12 => lay(page, at, b"its count of records"),
+        11 => lay(page, at, b"a record"),
+        12 => lay(page, at, b"its count"),
         13 => lay(page, at, b"its high or low release"),
         _ => lay(page, at, b"unknown"),
     }

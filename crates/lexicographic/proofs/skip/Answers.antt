@@ -2,7 +2,6 @@ use borrow.Author.Rules.{rules}
 use mathlib.Core.Path.{refl, sym, ◌∙◌}
 use Prim.Native.Nat.{◌-◌}
 use native.Mathlib.Omega.{arith}
-use borrow.Author.Tests.{not-false}
 use Rattle.lexicographic.specs.Lexicographic.{order_alike}
 use Rattle.lexicographic.proofs.skip.Goals as goal
 
@@ -13,4 +12,4 @@ pub loop-i-preserved : goal.loop-i-preserved
 loop-i-preserved c =
     let a = c.args in
     let l = c.loop-i in
-    (omega arith, order_alike a.x.now a.y.now l.i 32 (omega arith) (omega arith) (sym c.are_alike.ensures ∙ not-false _ c.if-not-are_alike.false) ∙ l.invariant.1)
+    (omega arith, order_alike a.x.now a.y.now l.i 32 (omega arith) (omega arith) (sym c.are_alike.ensures ∙ c.if-not-are_alike.false) ∙ l.invariant.1)

@@ -3,7 +3,7 @@ use Prim.Native.Nat.{◌+◌, ◌-◌}
 use native.Mathlib.Omega.{arith}
 use lib.ListN.{get_or, length-set}
 use Rattle.recordorder.specs.At.{comes_before}
-use Rattle.sorting.specs.Choice.{merging_none, merging_second, merging_end}
+use Rattle.sorting.specs.Choice.{merging_none, merging_second, merging_first, merging_end}
 use Rattle.sorting.proofs.merge.Goals as goal
 
 pub loop-i-init : goal.loop-i-init
@@ -35,3 +35,13 @@ returns c =
     let a = c.args in
     let l = c.loop-i in
     merging_end (comes_before a.file.now) a.x.now a.y.now l.out l.i l.j l.invariant.0 (omega arith)
+
+pub loop-i-preserved : goal.loop-i-preserved
+loop-i-preserved c =
+    let a = c.args in
+    let l = c.loop-i in
+    let o = c.takes_second.ensures in
+    let t = c.if-takes_second.false in (
+      merging_first (comes_before a.file.now) a.x.now a.y.now l.out l.i l.j l.invariant.0 (omega arith) (sym o.is ∙ t) (o.first t),
+      length-set l.out (l.i + l.j) (get_or a.x.now l.i 0) ∙ l.invariant.1,
+    )

@@ -22,7 +22,11 @@ digits_are : (c : goal.After-before_stop-digits) → c.before_stop-digits.result
 digits_are c = c.before_stop-digits.ensures.0 ∙ (λ i. before 46 c.args.name.now (node_is c i + 3) 10)
 
 counted : (c : goal.After-value_at-count) → c.value_at-count.result ≡ value_at (count_length c.args.name.now) c.args.name.now (count_place c.args.name.now)
-counted c = c.value_at-count.ensures.0 ∙ (λ i. value_at (digits_are c.After-before_stop-digits i) c.args.name.now (node_is c.After-before_stop-digits i + 3))
+counted c =
+    let n : c.before_stop-node.result ≡ node_length c.args.name.now = c.before_stop-node.ensures.0 in
+    let d : c.before_stop-digits.result ≡ count_length c.args.name.now =
+    c.before_stop-digits.ensures.0 ∙ (λ i. before 46 c.args.name.now (n i + 3) 10) in
+    c.value_at-count.ensures.0 ∙ (λ i. value_at (d i) c.args.name.now (n i + 3))
 
 pub overflow_add-node : goal.overflow_add-node
 overflow_add-node c = omega (arith, c.before_stop-node.ensures.1)

@@ -8,7 +8,7 @@ use Rattle.filename.proofs.spelling.length_of.Goals as goal
 pub returns-then-f-eq1 : goal.returns-then-f-eq1
 returns-then-f-eq1 c =
     let a = c.args in
-    let w = c.width_of_lem.ensures in
+    let w = c.width_of.ensures in
     let l = spelled_length a.f a.node.now a.private.now in
     let p = ap length (private_there a.f.has a.private.now c.if-f-eq1.true) in
     (omega (arith, w, l, p), omega (arith, w, c.requires))
@@ -16,7 +16,7 @@ returns-then-f-eq1 c =
 pub returns-else-f-eq1 : goal.returns-else-f-eq1
 returns-else-f-eq1 c =
     let a = c.args in
-    let w = c.width_of_lem.ensures in
+    let w = c.width_of.ensures in
     let l = spelled_length a.f a.node.now a.private.now in
     let p = ap length (private_none a.f.has a.private.now c.if-f-eq1.false) in
     (omega (arith, w, l, p), omega (arith, w, c.requires))

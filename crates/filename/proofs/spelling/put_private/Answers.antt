@@ -14,7 +14,7 @@ copy-requires c =
 
 pub copy-requires-then-has-eq1 : goal.copy-requires-then-has-eq1
 copy-requires-then-has-eq1 c =
-    omega (arith, c.requires, c.copy.auto.0, ap length (private_there c.args.has c.args.private.now c.if-has-eq1.true))
+    omega (arith, c.requires, ap length (private_there c.args.has c.args.private.now c.if-has-eq1.true))
 
 pub returns-then-has-eq1 : goal.returns-then-has-eq1
 returns-then-has-eq1 c =

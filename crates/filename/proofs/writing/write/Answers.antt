@@ -2,7 +2,6 @@
 use mathlib.Core.Path.{◌≡◌, sym, ap, ◌∙◌}
 use mathlib.Core.Bool.{true}
 use native.Mathlib.Omega.{arith}
-use borrow.Author.Tests.{not-true, not-false}
 use Rattle.octets.specs.Splice.{splice}
 use Rattle.filename.specs.declared.Written.{Written}
 use Rattle.filename.specs.Name.{right, spelled}
@@ -13,13 +12,13 @@ use Rattle.filename.proofs.writing.write.Goals.{Else-not-is_right}
 
 -- behind the first test the fields are right
 passed : (c : goal.Else-not-is_right) → right c.args.f c.args.node.now c.args.private.now ≡ true
-passed c = sym c.is_right.ensures ∙ not-false c.is_right.result c.if-not-is_right.false
+passed c = sym c.is_right.ensures ∙ c.if-not-is_right.false
 
 pub returns-then-not-is_right : goal.returns-then-not-is_right
 returns-then-not-is_right c =
     let a = c.args in
     ap (λ (r : Written). after r a.output.now) c.answer.ensures
-    ∙ write_wrong a.f a.node.now a.private.now a.output.now (sym c.is_right.ensures ∙ not-true c.is_right.result c.if-not-is_right.true)
+    ∙ write_wrong a.f a.node.now a.private.now a.output.now (sym c.is_right.ensures ∙ c.if-not-is_right.true)
 
 pub length_of-octets-requires : goal.length_of-octets-requires
 length_of-octets-requires c =

@@ -1,55 +1,54 @@
 -- `reasons::refused::lay_words` meets its contract: each arm is a row, and the last one none. Assumes nothing.
+use native.Mathlib.Omega.{arith}
 use Rattle.wording.specs.Laid.{laid_of, laid_as}
 use Rattle.reasons.specs.Rows.{no_row}
 use Rattle.reasons.specs.Refusals.{event_rows, unknown, of_event}
 use Rattle.reasons.proofs.refused.lay_words.Goals as goal
 
 pub returns-in-1 : goal.returns-in-1
-returns-in-1 c = laid_of of_event c.in-1.keys1 c.lay.ensures
+returns-in-1 c = laid_of of_event c.in-1.is c.lay.ensures
 
 pub returns-in-2 : goal.returns-in-2
-returns-in-2 c = laid_of of_event c.in-2.keys2 c.lay-in-2.ensures
+returns-in-2 c = laid_of of_event c.in-2.is c.lay-in-2.ensures
 
 pub returns-in-3 : goal.returns-in-3
-returns-in-3 c = laid_of of_event c.in-3.keys3 c.lay-in-3.ensures
+returns-in-3 c = laid_of of_event c.in-3.is c.lay-in-3.ensures
 
 pub returns-in-4 : goal.returns-in-4
-returns-in-4 c = laid_of of_event c.in-4.keys4 c.lay-in-4.ensures
+returns-in-4 c = laid_of of_event c.in-4.is c.lay-in-4.ensures
 
 pub returns-in-5 : goal.returns-in-5
-returns-in-5 c = laid_of of_event c.in-5.keys5 c.lay-in-5.ensures
+returns-in-5 c = laid_of of_event c.in-5.is c.lay-in-5.ensures
 
 pub returns-in-6 : goal.returns-in-6
-returns-in-6 c = laid_of of_event c.in-6.keys6 c.lay-in-6.ensures
+returns-in-6 c = laid_of of_event c.in-6.is c.lay-in-6.ensures
 
 pub returns-in-7 : goal.returns-in-7
-returns-in-7 c = laid_of of_event c.in-7.keys7 c.lay-in-7.ensures
+returns-in-7 c = laid_of of_event c.in-7.is c.lay-in-7.ensures
 
 pub returns-in-11 : goal.returns-in-11
-returns-in-11 c = laid_of of_event c.in-11.keys8 c.lay-in-11.ensures
+returns-in-11 c = laid_of of_event c.in-11.is c.lay-in-11.ensures
 
 pub returns-in-14 : goal.returns-in-14
-returns-in-14 c = laid_of of_event c.in-14.keys9 c.lay-in-14.ensures
+returns-in-14 c = laid_of of_event c.in-14.is c.lay-in-14.ensures
 
 pub returns-in-15 : goal.returns-in-15
-returns-in-15 c = laid_of of_event c.in-15.keys10 c.lay-in-15.ensures
+returns-in-15 c = laid_of of_event c.in-15.is c.lay-in-15.ensures
 
 pub returns-in-16 : goal.returns-in-16
-returns-in-16 c = laid_of of_event c.in-16.keys11 c.lay-in-16.ensures
+returns-in-16 c = laid_of of_event c.in-16.is c.lay-in-16.ensures
 
 pub returns-in-17 : goal.returns-in-17
-returns-in-17 c = laid_of of_event c.in-17.keys12 c.lay-in-17.ensures
+returns-in-17 c = laid_of of_event c.in-17.is c.lay-in-17.ensures
 
 pub returns-in-18 : goal.returns-in-18
-returns-in-18 c = laid_of of_event c.in-18.keys13 c.lay-in-18.ensures
+returns-in-18 c = laid_of of_event c.in-18.is c.lay-in-18.ensures
 
 pub returns-in-19 : goal.returns-in-19
-returns-in-19 c = laid_of of_event c.in-19.keys14 c.lay-in-19.ensures
+returns-in-19 c = laid_of of_event c.in-19.is c.lay-in-19.ensures
 
 pub returns-in-22 : goal.returns-in-22
-returns-in-22 c = laid_of of_event c.in-22.keys15 c.lay-in-22.ensures
+returns-in-22 c = laid_of of_event c.in-22.is c.lay-in-22.ensures
 
 pub returns-in_default : goal.returns-in_default
-returns-in_default c =
-    let r = c.in_default.rest in
-    laid_as (no_row c.args.number event_rows unknown (r.0.0.0.0.0.0.0.0.0.0.0.0.0.0.1, (r.0.0.0.0.0.0.0.0.0.0.0.0.0.1, (r.0.0.0.0.0.0.0.0.0.0.0.0.1, (r.0.0.0.0.0.0.0.0.0.0.0.1, (r.0.0.0.0.0.0.0.0.0.0.1, (r.0.0.0.0.0.0.0.0.0.1, (r.0.0.0.0.0.0.0.0.1, (r.0.0.0.0.0.0.0.1, (r.0.0.0.0.0.0.1, (r.0.0.0.0.0.1, (r.0.0.0.0.1, (r.0.0.0.1, (r.0.0.1, (r.0.1, (r.1, tt)))))))))))))))) c.lay-in_default.ensures
+returns-in_default c = laid_as (no_row c.args.number event_rows unknown (omega arith, (omega arith, (omega arith, (omega arith, (omega arith, (omega arith, (omega arith, (omega arith, (omega arith, (omega arith, (omega arith, (omega arith, (omega arith, (omega arith, (omega arith, tt)))))))))))))))) c.lay-in_default.ensures

@@ -16,10 +16,10 @@ inside_file c =
     omega (arith, found.within, found.some, length-drop at file)
 
 pub overflow_add-at : goal.overflow_add-at
-overflow_add-at c = omega (arith, inside_file (goal.at.overflow_add-at c).Else-s-ne0, c.good.1.1.1.0.0)
+overflow_add-at c = omega (arith, inside_file (goal.at.overflow_add-at c).Else-s-ne0)
 
 pub overflow_add-at-in-loop-index : goal.overflow_add-at-in-loop-index
-overflow_add-at-in-loop-index c = omega (arith, inside_file (goal.at.overflow_add-at-in-loop-index c).Else-s-ne0, c.good.1.1.1.0.0)
+overflow_add-at-in-loop-index c = omega (arith, inside_file (goal.at.overflow_add-at-in-loop-index c).Else-s-ne0)
 
 pub overflow_add-index : goal.overflow_add-index
-overflow_add-index c = omega (arith, c.loop-index-test.true, c.fits.count)
+overflow_add-index c = omega arith

@@ -12,7 +12,7 @@ put_decimal-requires c = omega (arith, c.requires, width_most 9 c.args.n)
 pub returns : goal.returns
 returns c =
     let n = c.args.n in
-    let w = c.width_of_lem.ensures in
+    let w = c.width_of.ensures in
     let p = c.put_decimal.ensures in
     let d = digits_length (width n) n in
     let l = ap length p ∙ splice_length c.args.page.now c.args.at (decimal n) (omega (arith, c.requires, d, width_most 9 n)) in
