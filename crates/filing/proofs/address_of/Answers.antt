@@ -5,4 +5,4 @@ use Rattle.filing.proofs.address_of.Goals as goal
 
 pub returns : goal.returns
 returns c =
-    addressed _ c.args.t1 (omega arith) (omega arith) c.copy.ensures c.copy-2.ensures
+    addressed _ c.args.node (omega arith) (omega arith) c.copy.ensures c.copy-2.ensures

@@ -35,7 +35,7 @@ returns-then-packet-at c =
 pub overflow_add-at : goal.overflow_add-at
 overflow_add-at c =
     let l = c.loop-at in
-    omega (arith, c.if-packet-at.false, l.invariant.inside, c.well-formed.0)
+    omega (arith, c.if-packet-at.false, l.invariant.inside)
 
 pub overflow_add-n : goal.overflow_add-n
 overflow_add-n c = omega (arith, more (goal.at.overflow_add-n c).Else-n-eq64)

@@ -8,10 +8,11 @@ use Rattle.octets.specs.Number.{Octets}
 use Rattle.words.specs.Words.{settings_in}
 use Rattle.routing.specs.Prefix.{same_in, few, differs_unfit, differs_compared, same_fits, same_compared, long_unfit, long_compared}
 use Rattle.routing.proofs.compare.Goals as goal
-use Rattle.routing.proofs.compare.Goals.{After-same_first-same, After-top_of-octets}
+use Rattle.routing.proofs.compare.Goals.{After-same_first-same}
 
-octets : (t : goal.After-top_of-octets) → Octets t.args.key.now
-octets t = record { at = λ i. omega (arith, t.type_inv.key i) }
+-- the key's octets are octets
+octets : (f : goal.After-same_first-same) → Octets f.args.key.now
+octets f = record { at = λ i. omega (arith, f.type_inv.key i) }
 
 -- so many are the same, in the words
 same : (f : goal.After-same_first-same) → f.same_first-same.result ≡ leading (same_in f.args.part.now f.args.five.now) (settings_in f.args.part.now).octets
@@ -20,7 +21,7 @@ same f =
 
 few_same : (f : goal.After-same_first-same) → f.same_first-same.result ≤ 20
 few_same f =
-    few f.args.part.now f.args.key.now f.args.five.now (octets f.After-top_of-octets) f.requires.2 f.requires.1 (same f)
+    few f.args.part.now f.args.key.now f.args.five.now (octets f) f.requires.2 f.requires.1 (same f)
 
 pub returns-then-key-octets : goal.returns-then-key-octets
 returns-then-key-octets c =
@@ -38,7 +39,7 @@ returns-then-same-octets c =
     let xs = c.args.part.now in
     let key = c.args.key.now in
     let five = c.args.five.now in
-    let o = octets (goal.at.returns-then-same-octets c).After-top_of-octets in
+    let o = octets (goal.at.returns-then-same-octets c).After-same_first-same in
     let room : (settings_in xs).octets ≤ length key = omega (arith, c.if-key-octets.false, c.top_of-octets.ensures) in
     let less : c.same_first-same.result < (settings_in xs).octets = omega (arith, c.if-same-octets.true, c.top_of-octets.ensures) in
     (differs_unfit xs key five o c.requires.2 c.requires.1 (same (goal.at.returns-then-same-octets c).After-same_first-same) less, differs_compared xs key five o c.requires.2 c.requires.1 (same (goal.at.returns-then-same-octets c).After-same_first-same) room less)
@@ -48,7 +49,7 @@ returns c =
     let xs = c.args.part.now in
     let key = c.args.key.now in
     let five = c.args.five.now in
-    let o = octets (goal.at.returns c).After-top_of-octets in
+    let o = octets (goal.at.returns c).After-same_first-same in
     let room : (settings_in xs).octets ≤ length key = omega (arith, c.if-key-octets.false, c.top_of-octets.ensures) in
     let all : (settings_in xs).octets ≤ c.same_first-same.result = omega (arith, c.if-same-octets.false, c.top_of-octets.ensures) in
     (same_fits xs key five o c.requires.2 c.requires.1 (same (goal.at.returns c).After-same_first-same) room all, c.top_of-octets.ensures ∙ same_compared xs key five o c.requires.2 c.requires.1 (same (goal.at.returns c).After-same_first-same) room all)

@@ -10,7 +10,6 @@ use Rattle.words.specs.Words.{manager_in}
 use Rattle.words.specs.Laws.{part_settings}
 use borrow.Author.Rules.{rules}
 use Rattle.routing.proofs.route_of.Goals as goal
-use Rattle.routing.proofs.route_of.Goals.{Start}
 
 pub loop-i-init : goal.loop-i-init
 loop-i-init c = (search rules, c.count_of-n.ensures, refl, refl)
@@ -20,7 +19,7 @@ found_with-c-requires c =
     let i = c.loop-i.i in
     let m = manager_in c.args.words.now in
     let key = c.args.key.now in
-    let octets = ap (λ ((goal.at.found_with-c-requires c).Start : RouteSettings). c.octets) (part_settings c.args.words.now i (omega arith)) in
+    let octets = ap (λ (s : RouteSettings). s.octets) (part_settings c.args.words.now i (omega arith)) in
     -- each of those before it has cost at most 20
     let most = among_most m key 20 i (λ j h. omega (arith, with_octets (settings_at m j) key, c.requires.1.short j (omega arith))) in (
       search rules,

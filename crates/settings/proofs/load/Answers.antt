@@ -8,7 +8,6 @@ use mathlib.Core.List.{List}
 use Prim.Native.Nat.{ℕ, ◌+◌, ◌*◌, ◌-◌, ◌/◌, ◌≤◌}
 use native.Mathlib.Omega.{arith}
 use lib.ListN.{length}
-use borrow.Author.Tests.{not-true, not-false}
 use Rattle.octets.specs.Number.{Octets}
 use Rattle.state.specs.Bounds.{distinct}
 use Rattle.words.specs.Words.{manager_in, words_of}
@@ -18,53 +17,35 @@ use Rattle.settings.specs.Cases.{shaped, fresh_shape, fresh_range, fresh_equal, 
 use Rattle.settings.specs.Held.{out_of_range, words_range, words_distinct}
 use borrow.Author.Rules.{rules}
 use Rattle.settings.proofs.load.Goals as goal
-use Rattle.settings.proofs.load.Goals.{After-are_distinct, After-beyond_range, After-put_sets, After-words_from-words, Else-beyond_range, Else-not-are_distinct, Else-wrong_shape}
+use Rattle.settings.proofs.load.Goals.{Else-wrong_shape}
 
 -- the settings' octets, of the right shape
-abbrev given : goal.Else-wrong_shape → List ℕ
-given c = c.args.octets.now
-
-shape_right : (c : goal.Else-wrong_shape) → wrong_shape (given c) ≡ false
+shape_right : (c : goal.Else-wrong_shape) → wrong_shape c.args.octets.now ≡ false
 shape_right c = sym c.wrong_shape.ensures ∙ c.if-wrong_shape.false
 
-low : (c : goal.Else-wrong_shape) → Octets (given c)
+low : (c : goal.Else-wrong_shape) → Octets c.args.octets.now
 low c = record { at = λ i. omega (arith, c.type_inv.octets i) }
 
--- how many routes they have, and the words without set times
-routes_are : (c : goal.Else-wrong_shape) → c.routes_in-n.result ≡ routes_in (given c)
-routes_are c = c.routes_in-n.ensures.0
+module _ (xs : List ℕ) (n : ℕ) (routes : n ≡ routes_in xs) where
+  -- the set times, of as many as there are
+  sets_are : (length xs - (19 + 41 * n)) / 4 ≡ sets_in xs
+  sets_are = ap (λ (k : ℕ). (length xs - (19 + 41 * k)) / 4) routes
 
-words_are : (c : goal.After-words_from-words) → c.words_from-words.result ≡ words_of (manager_with (given c.Else-wrong_shape) (routes_in (given c.Else-wrong_shape)) 0)
-words_are c = c.words_from-words.ensures ∙ ap (λ (n : ℕ). words_of (manager_with (given c.Else-wrong_shape) n 0)) (routes_are c.Else-wrong_shape)
+  module _ (right : wrong_shape xs ≡ false) where
+    -- where the routes end
+    ends : route_start n ≤ length xs
+    ends = omega (arith, routes, (shaped xs right).whole)
 
--- what the words' tests tell of them
-range_is : (c : goal.After-beyond_range) → c.beyond_range.result ≡ beyond_range (given c.Else-wrong_shape)
-range_is c =
-    c.beyond_range.ensures
-    ∙ ap (out_of_range (manager_in c.words_from-words.result)) (routes_are c.Else-wrong_shape)
-    ∙ words_range (given c.Else-wrong_shape) (low c.Else-wrong_shape) (shaped _ (shape_right c.Else-wrong_shape)).most (words_are c.After-words_from-words)
+    -- what the words' tests tell of them, which are without set times
+    module _ (o : Octets xs) (ws : List ℕ) (from : ws ≡ words_of (manager_with xs n 0)) where
+      words_are : ws ≡ words_of (manager_with xs (routes_in xs) 0)
+      words_are = from ∙ ap (λ (k : ℕ). words_of (manager_with xs k 0)) routes
 
-filters_are : (c : goal.After-are_distinct)
-    → c.are_distinct.result ≡ distinct (manager_from (given c.Else-wrong_shape) (routes_in (given c.Else-wrong_shape))) (routes_in (given c.Else-wrong_shape))
-filters_are c =
-    c.are_distinct.ensures
-    ∙ ap (distinct (manager_in c.words_from-words.result)) (routes_are c.Else-wrong_shape)
-    ∙ words_distinct (given c.Else-wrong_shape) (low c.Else-wrong_shape) (shaped _ (shape_right c.Else-wrong_shape)).most (words_are c.After-words_from-words)
+      range_is : out_of_range (manager_in ws) n ≡ beyond_range xs
+      range_is = ap (out_of_range (manager_in ws)) routes ∙ words_range xs o (shaped xs right).most words_are
 
-range_right : (c : goal.Else-beyond_range) → beyond_range (given c.Else-wrong_shape) ≡ false
-range_right c = sym (range_is c.After-beyond_range) ∙ c.if-beyond_range.false
-
--- where the routes end
-ends : (c : goal.Else-wrong_shape) → route_start c.routes_in-n.result ≤ length (given c)
-ends c = omega (arith, routes_are c, (shaped (given c) (shape_right c)).whole)
-
-sets_are : (c : goal.Else-not-are_distinct)
-    → (length (given c.Else-wrong_shape) - (19 + 41 * c.routes_in-n.result)) / 4 ≡ sets_in (given c.Else-wrong_shape)
-sets_are c = ap (λ (n : ℕ). (length (given c.Else-wrong_shape) - (19 + 41 * n)) / 4) (routes_are c.Else-wrong_shape)
-
-told : (c : goal.After-put_sets) → c.put_sets.result ≡ all_below (set_time_right (given c.Else-wrong_shape)) (sets_in (given c.Else-wrong_shape))
-told c =
-    c.put_sets.ensures.told ∙ ap (all_below (set_time_right (given c.Else-wrong_shape))) (sets_are c.Else-not-are_distinct)
+      filters_are : distinct (manager_in ws) n ≡ distinct (manager_from xs (routes_in xs)) (routes_in xs)
+      filters_are = ap (distinct (manager_in ws)) routes ∙ words_distinct xs o (shaped xs right).most words_are
 
 pub returns-then-wrong_shape : goal.returns-then-wrong_shape
 returns-then-wrong_shape c =
@@ -72,47 +53,74 @@ returns-then-wrong_shape c =
     ∙ ap worded (sym (fresh_shape c.args.octets.now (sym c.wrong_shape.ensures ∙ c.if-wrong_shape.true)))
 
 pub words_from-words-requires : goal.words_from-words-requires
-words_from-words-requires c = (c.routes_in-n.ensures.1, ends c)
+words_from-words-requires c =
+    (c.routes_in-n.ensures.1, ends c.args.octets.now c.routes_in-n.result c.routes_in-n.ensures.0 (shape_right (goal.at.words_from-words-requires c).Else-wrong_shape))
 
 pub beyond_range-requires : goal.beyond_range-requires
 beyond_range-requires c = (search rules, c.routes_in-n.ensures.1)
 
 pub returns-then-beyond_range : goal.returns-then-beyond_range
 returns-then-beyond_range c =
-    c.refused-then-beyond_range.ensures ∙ ap worded (sym (fresh_range (given (goal.at.returns-then-beyond_range c).Else-wrong_shape) (shape_right (goal.at.returns-then-beyond_range c).Else-wrong_shape) (sym (range_is (goal.at.returns-then-beyond_range c).After-beyond_range) ∙ c.if-beyond_range.true)))
+    let s = (goal.at.returns-then-beyond_range c).Else-wrong_shape in
+    let xs = c.args.octets.now in
+    let range = range_is xs c.routes_in-n.result c.routes_in-n.ensures.0 (shape_right s) (low s) c.words_from-words.result c.words_from-words.ensures in
+    c.refused-then-beyond_range.ensures
+    ∙ ap worded (sym (fresh_range xs (shape_right s) (sym range ∙ sym c.beyond_range.ensures ∙ c.if-beyond_range.true)))
 
 pub are_distinct-requires : goal.are_distinct-requires
 are_distinct-requires c = (search rules, c.routes_in-n.ensures.1)
 
 pub returns-then-not-are_distinct : goal.returns-then-not-are_distinct
 returns-then-not-are_distinct c =
-    c.refused-then-not-are_distinct.ensures ∙ ap worded (sym (fresh_equal (given (goal.at.returns-then-not-are_distinct c).Else-wrong_shape) (shape_right (goal.at.returns-then-not-are_distinct c).Else-wrong_shape) (range_right (goal.at.returns-then-not-are_distinct c).Else-beyond_range) (filters_are (goal.at.returns-then-not-are_distinct c).After-are_distinct) (not-true _ c.if-not-are_distinct.true)))
+    let s = (goal.at.returns-then-not-are_distinct c).Else-wrong_shape in
+    let xs = c.args.octets.now in
+    let n = c.routes_in-n in
+    let words = c.words_from-words in
+    let range = range_is xs n.result n.ensures.0 (shape_right s) (low s) words.result words.ensures in
+    let filters = filters_are xs n.result n.ensures.0 (shape_right s) (low s) words.result words.ensures in
+    c.refused-then-not-are_distinct.ensures
+    ∙ ap worded (sym (fresh_equal xs (shape_right s) (sym range ∙ sym c.beyond_range.ensures ∙ c.if-beyond_range.false) (c.are_distinct.ensures ∙ filters) c.if-not-are_distinct.true))
 
 pub overflow_sub-k : goal.overflow_sub-k
-overflow_sub-k c = ends (goal.at.overflow_sub-k c).Else-wrong_shape
+overflow_sub-k c =
+    ends c.args.octets.now c.routes_in-n.result c.routes_in-n.ensures.0 (shape_right (goal.at.overflow_sub-k c).Else-wrong_shape)
 
 pub put_sets-requires : goal.put_sets-requires
 put_sets-requires c =
     (
       record {
-        routes = routes_are (goal.at.put_sets-requires c).Else-wrong_shape;
+        routes = c.routes_in-n.ensures.0;
         few = c.routes_in-n.ensures.1;
-        whole = (shaped (given (goal.at.put_sets-requires c).Else-wrong_shape) (shape_right (goal.at.put_sets-requires c).Else-wrong_shape)).whole;
+        whole = (shaped c.args.octets.now (shape_right (goal.at.put_sets-requires c).Else-wrong_shape)).whole;
         is = c.words_from-words.ensures;
       },
-      sets_are (goal.at.put_sets-requires c).Else-not-are_distinct,
+      sets_are c.args.octets.now c.routes_in-n.result c.routes_in-n.ensures.0,
     )
 
 pub returns-then-not-put_sets : goal.returns-then-not-put_sets
 unfolding wrong_sets
 returns-then-not-put_sets c =
-    let wrong : wrong_sets (given (goal.at.returns-then-not-put_sets c).Else-wrong_shape) ≡ true = ap not (sym (told (goal.at.returns-then-not-put_sets c).After-put_sets)) ∙ c.if-not-put_sets.true in
-    c.refused-then-not-put_sets.ensures ∙ ap worded (sym (fresh_unset (given (goal.at.returns-then-not-put_sets c).Else-wrong_shape) (shape_right (goal.at.returns-then-not-put_sets c).Else-wrong_shape) (range_right (goal.at.returns-then-not-put_sets c).Else-beyond_range) (filters_are (goal.at.returns-then-not-put_sets c).After-are_distinct) (not-false _ c.if-not-are_distinct.false) wrong))
+    let s = (goal.at.returns-then-not-put_sets c).Else-wrong_shape in
+    let xs = c.args.octets.now in
+    let n = c.routes_in-n in
+    let words = c.words_from-words in
+    let range = range_is xs n.result n.ensures.0 (shape_right s) (low s) words.result words.ensures in
+    let filters = filters_are xs n.result n.ensures.0 (shape_right s) (low s) words.result words.ensures in
+    let told = c.put_sets.ensures.told ∙ ap (all_below (set_time_right xs)) (sets_are xs n.result n.ensures.0) in
+    let wrong : wrong_sets xs ≡ true = ap not (sym told ∙ c.if-not-put_sets.true) in
+    c.refused-then-not-put_sets.ensures
+    ∙ ap worded (sym (fresh_unset xs (shape_right s) (sym range ∙ sym c.beyond_range.ensures ∙ c.if-beyond_range.false) (c.are_distinct.ensures ∙ filters) c.if-not-are_distinct.false wrong))
 
 pub returns : goal.returns
 unfolding wrong_sets
 returns c =
-    let right = not-false c.put_sets.result c.if-not-put_sets.false in
-    let sets : wrong_sets (given (goal.at.returns c).Else-wrong_shape) ≡ false = ap not (sym (told (goal.at.returns c).After-put_sets)) ∙ c.if-not-put_sets.false in
-    (λ i. record { refusal = 0; words = (c.put_sets.ensures.is right ∙ (λ j. words_of (manager_with (given (goal.at.returns c).Else-wrong_shape) (routes_are (goal.at.returns c).Else-wrong_shape j) (sets_are (goal.at.returns c).Else-not-are_distinct j)))) i })
-    ∙ ap worded (sym (fresh_taken (given (goal.at.returns c).Else-wrong_shape) (shape_right (goal.at.returns c).Else-wrong_shape) (range_right (goal.at.returns c).Else-beyond_range) (filters_are (goal.at.returns c).After-are_distinct) (not-false _ c.if-not-are_distinct.false) sets))
+    let s = (goal.at.returns c).Else-wrong_shape in
+    let xs = c.args.octets.now in
+    let n = c.routes_in-n in
+    let words = c.words_from-words in
+    let range = range_is xs n.result n.ensures.0 (shape_right s) (low s) words.result words.ensures in
+    let filters = filters_are xs n.result n.ensures.0 (shape_right s) (low s) words.result words.ensures in
+    let told = c.put_sets.ensures.told ∙ ap (all_below (set_time_right xs)) (sets_are xs n.result n.ensures.0) in
+    let sets : wrong_sets xs ≡ false = ap not (sym told ∙ c.if-not-put_sets.false) in
+    (λ i. record { refusal = 0; words = (c.put_sets.ensures.is c.if-not-put_sets.false ∙ (λ j. words_of (manager_with xs (n.ensures.0 j) (sets_are xs n.result n.ensures.0 j)))) i })
+    ∙ ap worded (sym (fresh_taken xs (shape_right s) (sym range ∙ sym c.beyond_range.ensures ∙ c.if-beyond_range.false) (c.are_distinct.ensures ∙ filters) c.if-not-are_distinct.false sets))

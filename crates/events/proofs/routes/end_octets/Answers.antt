@@ -9,10 +9,9 @@ pub returns-then-is_ending : goal.returns-then-is_ending
 returns-then-is_ending c =
     let a = c.args in
     let f = a.r.file in
-    let wide = c.well-formed.1.0.1.1.1.1.1.1.1.0.1.1.1.1.1.1.1.1.1.0 in
     let ends = sym c.if-is_ending.true ∙ c.is_ending.ensures in (
       c.closed_size-size.ensures ∙ ap (λ (b : Bool). cond b (closed_size a.r) 0) ends,
-      omega (arith, size_most a.r.settings.octets f.high f.low, wide),
+      omega (arith, size_most a.r.settings.octets f.high f.low),
     )
 
 pub returns-else-is_ending : goal.returns-else-is_ending

@@ -8,7 +8,7 @@ returns c =
     let a = c.args in
     λ i. record {
       settings = a.r.settings;
-      next = c.wrapping_add_u32.ensures i;
+      next = c.wrapping_add_u32.ensures.value i;
       losses = a.r.losses;
       unrouted = a.r.unrouted;
       «open» = true;

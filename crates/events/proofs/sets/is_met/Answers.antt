@@ -12,8 +12,11 @@ counts c = omega (arith, c.loop-j-test.true, c.loop-j.invariant.1)
 few : (c : goal.In-loop-j) → c.loop-j.j < 24
 few c = omega (arith, counts c, c.requires.sets.few)
 
+counted : (c : goal.After-set_minute-minute) → c.loop-j.j < set_count (manager_in c.args.words.now).set_times c.args.i
+counted c = omega (arith, c.loop-j-test.true, c.loop-j.invariant.1)
+
 day : (c : goal.After-set_minute-minute) → c.set_minute-minute.result ≤ 1439
-day c = omega (arith, c.set_minute-minute.ensures, c.requires.sets.day c.loop-j.j (counts c.In-loop-j))
+day c = omega (arith, c.set_minute-minute.ensures, c.requires.sets.day c.loop-j.j (counted c))
 
 pub set_count-n-requires : goal.set_count-n-requires
 set_count-n-requires c = (c.requires.number, c.requires.route)

@@ -3,10 +3,11 @@ use mathlib.Core.Path.{◌≡◌}
 use Prim.Native.Nat.{◌≤◌, ◌-◌}
 use Rattle.refusals.specs.Below.{all_below}
 use Rattle.state.specs.SetTimes.{set_count, set_minute, minute_right}
+use Rattle.words.specs.Words.{manager_in}
 use Rattle.judging.proofs.sets.set_right.Given as goal
 
 abbrev pub invariant-loop-j : goal.invariant-loop-j
-invariant-loop-j l = (l.j ≤ l.n) × (l.n ≤ 24) × (l.n ≡ set_count (sets l.words) l.i) × (l.all ≡ all_below (minute_right (set_minute (sets l.words) l.i)) l.j)
+invariant-loop-j l = (l.j ≤ l.n) × (l.n ≤ 24) × (l.n ≡ set_count (manager_in l.words).set_times l.i) × (l.all ≡ all_below (minute_right (set_minute (manager_in l.words).set_times l.i)) l.j)
 
 abbrev pub decreases-loop-j : goal.decreases-loop-j
 decreases-loop-j l = l.n - l.j
