@@ -1,6 +1,7 @@
 -- `manager::opening::open` meets its contract: each way out is a case of the definition. Assumes nothing.
 use mathlib.Core.Path.{◌≡◌, sym, ap, ◌∙◌}
-use mathlib.Core.List.{[], ◌∷◌}
+use mathlib.Core.List.{List, [], ◌∷◌}
+use Rattle.std.proofs.Common.{ℕ}
 use Prim.Native.Nat.{◌<◌}
 use native.Mathlib.Omega.{arith}
 use lib.Dec.{leb}
@@ -17,34 +18,34 @@ use Rattle.events.specs.Cases.{open_refused, open_done, opened_made, open_there}
 use Rattle.events.specs.Held.{low_time}
 use borrow.Author.Rules.{rules}
 use Rattle.manager.proofs.opening.open.Goals as goal
-use Rattle.manager.proofs.opening.open.Goals.{After-effective_time-t, Else-number-ne0, Else-words-ne360, Start}
+use Rattle.manager.proofs.opening.open.Goals.{After-effective_time-t, Else-number-ne0, Else-words-ne360}
 
 -- The state, and the event on it.
-abbrev state : goal.Start → Manager
-state s = manager_in s.args.words.now
+abbrev state : List ℕ → Manager
+state words = manager_in words
 
-abbrev event : goal.Start → Manager → After
-event s m = open_of m s.args.store.now s.args.output.now s.args.time s.args.route
+abbrev event : List ℕ → List ℕ → ℕ → ℕ → Manager → After
+event store output time route m = open_of m store output time route
 
 -- the words are as many as a state has
 right : (c : goal.Else-words-ne360) → length c.args.words.now ≡ 360
 right c = c.if-words-ne360.false
 
 -- none of the refusals applies
-passes : (c : goal.Else-number-ne0) → first (open_rules (state c.Start) (length c.args.store.now) c.args.time c.args.route) ≡ 0
+passes : (c : goal.Else-number-ne0) → first (open_rules (state c.args.words.now) (length c.args.store.now) c.args.time c.args.route) ≡ 0
 passes c = sym c.open_refusal-number.ensures ∙ c.if-number-ne0.false
 
 there : (c : goal.Else-number-ne0) → c.args.route < 8
-there c = let a = c.args in open_there (state c.Start) (length a.store.now) a.time a.route (passes c)
+there c = let a = c.args in open_there (state c.args.words.now) (length a.store.now) a.time a.route (passes c)
 
 -- so the effective time is early enough
-early : (c : goal.Else-number-ne0) → effective (state c.Start) c.args.time < 2147483648
+early : (c : goal.Else-number-ne0) → effective (state c.args.words.now) c.args.time < 2147483648
 early c =
-    let m = state c.Start in
+    let m = state c.args.words.now in
     let a = c.args in
     (low_time m (length a.store.now) a.time ((6 when leb m.count a.route) ∷ (14 when (route_at m a.route).«open») ∷ []) (passes c)).0
 
-time_is : (c : goal.After-effective_time-t) → c.effective_time-t.result ≡ effective (state c.Start) c.args.time
+time_is : (c : goal.After-effective_time-t) → c.effective_time-t.result ≡ effective (state c.args.words.now) c.args.time
 unfolding manager_in
 time_is c = c.effective_time-t.ensures
 
@@ -52,15 +53,15 @@ pub returns-then-words-ne360 : goal.returns-then-words-ne360
 unfolding open_on
 returns-then-words-ne360 c =
     let a = c.args in
-    other_number a.words.now a.store.now a.output.now (event (goal.at.returns-then-words-ne360 c).Start) c.if-words-ne360.true c.refuse.ensures
+    other_number a.words.now a.store.now a.output.now (event a.store.now a.output.now a.time a.route) c.if-words-ne360.true c.refuse.ensures
 
 pub returns-then-number-ne0 : goal.returns-then-number-ne0
 unfolding open_on
 returns-then-number-ne0 c =
     let a = c.args in
     let number = c.open_refusal-number in
-    way_refused a.words.now a.store.now a.output.now (event s) (right (goal.at.returns-then-number-ne0 c).Else-words-ne360) number.result 0 c.refuse-then-number-ne0.ensures
-    (open_refused (state s) a.store.now a.output.now a.time a.route number.result number.ensures c.if-number-ne0.true)
+    way_refused a.words.now a.store.now a.output.now (event a.store.now a.output.now a.time a.route) (right (goal.at.returns-then-number-ne0 c).Else-words-ne360) number.result 0 c.refuse-then-number-ne0.ensures
+    (open_refused (state a.words.now) a.store.now a.output.now a.time a.route number.result number.ensures c.if-number-ne0.true)
 
 pub route_at-r-requires : goal.route_at-r-requires
 route_at-r-requires c = (search rules, there (goal.at.route_at-r-requires c).Else-number-ne0)
@@ -81,8 +82,8 @@ returns c =
     let a = c.args in
     let r = c.opened_route-opened in
     let q = c.route_at-r in
-    way_changed a.words.now a.store.now a.output.now (event (goal.at.returns c).Start) (right (goal.at.returns c).Else-words-ne360) a.route (there (goal.at.returns c).Else-number-ne0) r.result
+    way_changed a.words.now a.store.now a.output.now (event a.store.now a.output.now a.time a.route) (right (goal.at.returns c).Else-words-ne360) a.route (there (goal.at.returns c).Else-number-ne0) r.result
     (ap (λ (x : Route). x.settings) r.ensures ∙ ap (λ (x : Route). x.settings) q.ensures.0) c.effective_time-t.result 1 0 0 0
     c.accept.ensures c.put.ensures
-    (opened_made (state (goal.at.returns c).Start) a.store.now a.output.now a.time a.route (time_is (goal.at.returns c).After-effective_time-t) q.ensures.0 r.ensures
-    ∙ open_done (state (goal.at.returns c).Start) a.store.now a.output.now a.time a.route (passes (goal.at.returns c).Else-number-ne0))
+    (opened_made (state a.words.now) a.store.now a.output.now a.time a.route (time_is (goal.at.returns c).After-effective_time-t) q.ensures.0 r.ensures
+    ∙ open_done (state a.words.now) a.store.now a.output.now a.time a.route (passes (goal.at.returns c).Else-number-ne0))

@@ -1,6 +1,6 @@
 use mathlib.Core.Path.{◌≡◌, sym, ap, ◌∙◌}
 use mathlib.Core.Bool.{true, cond}
-use mathlib.Core.Logic.{⊎_elim}
+use mathlib.Core.List.{List}
 use Prim.Native.Nat.{ℕ, ◌+◌, ◌-◌, ◌≤◌, ◌<◌}
 use native.Mathlib.Omega.{arith}
 use Rattle.octets.specs.Splice.{splice}
@@ -20,44 +20,46 @@ use Rattle.events.specs.Events.{met_at, ends, end_reason, up_to}
 use Rattle.events.specs.Cases.{closable_as, closed_as}
 use Rattle.manager.specs.Tick.{begins, same_route, same_sets, meets, ready, turn_not, turn_due}
 use Rattle.manager.proofs.ticking.close_due.Goals as goal
-use Rattle.manager.proofs.ticking.close_due.Goals.{After-is_ending, After-route_at-r, Start}
+use Rattle.manager.proofs.ticking.close_due.Goals.{After-is_ending, After-route_at-r, then-is_ending, else-is_ending}
 
-abbrev state : goal.Start → Manager
-state s = manager_in s.args.words.now
+abbrev state : List ℕ → Manager
+state words = manager_in words
 
-few : (s : goal.Start) → s.args.n ≤ 8
-few s = omega (arith, s.requires.1.few, s.requires.1.state.few)
+few : (c : goal.After-route_at-r) → c.args.n ≤ 8
+few c = omega (arith, c.requires.1.few, c.requires.1.state.few)
 
 below : (c : goal.After-route_at-r) → c.loop-i.i < 8
-below c = omega (arith, few c.Start, c.loop-i-test.true)
+below c = omega (arith, few c, c.loop-i-test.true)
 
-route_is : (c : goal.After-route_at-r) → c.route_at-r.result ≡ route_at (state c.Start) c.loop-i.i
-route_is c = c.route_at-r.ensures.0 ∙ same_route _ _ _ _ _ c.loop-i.invariant.1 c.loop-i-test.true (few c.Start)
+route_is : (c : goal.After-route_at-r) → c.route_at-r.result ≡ route_at (state c.args.words.now) c.loop-i.i
+route_is c = c.route_at-r.ensures.0 ∙ same_route _ _ _ _ _ c.loop-i.invariant.1 c.loop-i-test.true (few c)
 
 -- whether its file ends
 told : (c : goal.After-is_ending)
-    → c.is_ending.result ≡ ends (state c.Start) c.args.t c.loop-i.i
+    → c.is_ending.result ≡ ends (state c.args.words.now) c.args.t c.loop-i.i
 told c =
     let l = c.loop-i in
-    let m = state c.Start in
+    let m = state c.args.words.now in
     let t = c.args.t in
-    let sets = same_sets _ _ _ _ _ l.invariant.1 c.loop-i-test.true (few c.Start) in
-    let fell : c.is_met-met.result ≡ met_at m t l.i = c.is_met-met.ensures ∙ (λ k. met (sets k) l.i (l.invariant.0 k).bias (route_is c.After-route_at-r k).file.opened t) in
-    c.is_ending.ensures ∙ (λ k. ending t (route_is c.After-route_at-r k) (fell k))
+    let low : c.args.n ≤ 8 = omega (arith, c.requires.1.few, c.requires.1.state.few) in
+    let read : c.route_at-r.result ≡ route_at m l.i = c.route_at-r.ensures.0 ∙ same_route _ _ _ _ _ l.invariant.1 c.loop-i-test.true low in
+    let sets = same_sets _ _ _ _ _ l.invariant.1 c.loop-i-test.true low in
+    let fell : c.is_met-met.result ≡ met_at m t l.i = c.is_met-met.ensures ∙ (λ k. met (sets k) l.i (l.invariant.0 k).bias (read k).file.opened t) in
+    c.is_ending.ensures ∙ (λ k. ending t (read k) (fell k))
 
 -- a file that ends can be closed behind those before it
 closable : (c : goal.After-route_at-r)
     → let l = c.loop-i in
-    let r = route_at (state c.Start) l.i in
-    ends (state c.Start) c.args.t l.i ≡ true
-    → Closable (node_of (state c.Start)) r (lost_octet r) c.args.store.now (base (state c.Start) l.i) l.output l.at
+    let r = route_at (state c.args.words.now) l.i in
+    ends (state c.args.words.now) c.args.t l.i ≡ true
+    → Closable (node_of (state c.args.words.now)) r (lost_octet r) c.args.store.now (base (state c.args.words.now) l.i) l.output l.at
 closable c e = ready _ _ _ _ _ c.loop-i.invariant.1 c.loop-i-test.true e c.requires.1
 
 pub loop-i-init : goal.loop-i-init
 loop-i-init c = (c.node_of-node.ensures, begins _ _ _ _ _ c.requires.0)
 
 pub route_at-r-requires : goal.route_at-r-requires
-route_at-r-requires c = (c.loop-i.invariant.1.number, omega (arith, few c.before.before.before.before.before.before.before.before, c.loop-i-test.true))
+route_at-r-requires c = (c.loop-i.invariant.1.number, omega (arith, c.requires.1.few, c.requires.1.state.few, c.loop-i-test.true))
 
 pub is_met-met-requires : goal.is_met-met-requires
 is_met-met-requires c =
@@ -67,7 +69,7 @@ is_met-met-requires c =
 pub close_file-requires : goal.close_file-requires
 close_file-requires c =
     let l = c.loop-i in
-    closable_as (state (goal.at.close_file-requires c).Start) l.i l.invariant.0 (route_is (goal.at.close_file-requires c).After-route_at-r) l.invariant.1.from (closable (goal.at.close_file-requires c).After-route_at-r (sym (told (goal.at.close_file-requires c).After-is_ending) ∙ c.if-is_ending.true))
+    closable_as (state c.args.words.now) l.i l.invariant.0 (route_is (goal.at.close_file-requires c).After-route_at-r) l.invariant.1.from (closable (goal.at.close_file-requires c).After-route_at-r (sym (told (goal.at.close_file-requires c).After-is_ending) ∙ c.if-is_ending.true))
 
 pub put_route-requires : goal.put_route-requires
 put_route-requires c =
@@ -79,7 +81,7 @@ pub overflow_add-at : goal.overflow_add-at
 overflow_add-at c =
     let l = c.loop-i in
     let n = c.closed_size-size.ensures ∙ ap closed_size (route_is (goal.at.overflow_add-at c).After-route_at-r) in
-    omega (arith, (closable (goal.at.overflow_add-at c).After-route_at-r (sym (told (goal.at.overflow_add-at c).After-is_ending) ∙ c.if-is_ending.true)).room, l.invariant.1.long, n, c.well-formed)
+    omega (arith, (closable (goal.at.overflow_add-at c).After-route_at-r (sym (told (goal.at.overflow_add-at c).After-is_ending) ∙ c.if-is_ending.true)).room, l.invariant.1.long, n, c.ranges)
 
 pub overflow_add-files : goal.overflow_add-files
 overflow_add-files c =
@@ -88,10 +90,10 @@ overflow_add-files c =
 pub overflow_add-from : goal.overflow_add-from
 overflow_add-from c =
     let l = c.loop-i in
-    let m = state (goal.at.overflow_add-from c).Start in
+    let m = state c.args.words.now in
     let p = c.requires.1 in
     let limit = ap (λ (r : Route). r.settings.limit) (route_is (goal.at.overflow_add-from c).After-route_at-r) in
-    omega (arith, l.invariant.1.from, limit, region_within m l.i m.count (omega (arith, p.few, c.loop-i-test.true)), p.regions, c.well-formed)
+    omega (arith, l.invariant.1.from, limit, region_within m l.i m.count (omega (arith, p.few, c.loop-i-test.true)), p.regions, c.ranges)
 
 pub overflow_add-i : goal.overflow_add-i
 overflow_add-i c = omega (arith, below (goal.at.overflow_add-i c).After-route_at-r)
@@ -103,23 +105,24 @@ loop-i-preserved c =
     let v = l.invariant.1 in
     let more = c.loop-i-test.true in
     let limit = ap (λ (r : Route). r.settings.limit) (route_is (goal.at.loop-i-preserved c).After-route_at-r) in
-    ⊎_elim
-    (λ w.
-    let ends_now = sym (told (goal.at.loop-i-preserved c).After-is_ending) ∙ w.0.taken in
-    let able = closable (goal.at.loop-i-preserved c).After-route_at-r ends_now in
-    let reason : w.1.result ≡ end_reason (state (goal.at.loop-i-preserved c).Start) a.t l.i = w.1.ensures ∙ ap (λ (r : Route). cond (due a.t r) 2 0) (route_is (goal.at.loop-i-preserved c).After-route_at-r) in
-    rw (w.12, w.13, w.14, w.15) (
-      l.invariant.0,
-      turn_due _ _ _ _ _ v more ends_now (few (goal.at.loop-i-preserved c).Start) limit (ap (λ (n : ℕ). l.at + n) (w.6.ensures ∙ ap closed_size (route_is (goal.at.loop-i-preserved c).After-route_at-r)))
-          (w.3.ensures
-          ∙ ap (splice l.output l.at)
-          (closed_as (state (goal.at.loop-i-preserved c).Start) a.store.now l.i w.1.result l.invariant.0 (route_is (goal.at.loop-i-preserved c).After-route_at-r) v.from ∙ ap (closed_file (state (goal.at.loop-i-preserved c).Start) a.store.now l.i) reason))
-          (closed_length (state (goal.at.loop-i-preserved c).Start) a.store.now l.i (end_reason (state (goal.at.loop-i-preserved c).Start) a.t l.i) able.records able.filter (twenty a.words.now l.i (below (goal.at.loop-i-preserved c).After-route_at-r)))
-          w.3.kept.1.1.1.1.1.0
-          (w.7.ensures ∙ ap closed_route (route_is (goal.at.loop-i-preserved c).After-route_at-r)) w.9.ensures,
-    ))
-    (λ w. rw (w.1, w.2, w.3, w.4) (l.invariant.0, turn_not _ _ _ _ _ v more limit (sym (told (goal.at.loop-i-preserved c).After-is_ending) ∙ w.0.left)))
-    c.if-is_ending.branch
+    elim c.if-is_ending.branch [
+      then-is_ending w ↦
+        let ends_now = sym (told (goal.at.loop-i-preserved c).After-is_ending) ∙ w.if-is_ending.true in
+        let able = closable (goal.at.loop-i-preserved c).After-route_at-r ends_now in
+        let reason : w.end_reason-reason.result ≡ end_reason (state a.words.now) a.t l.i = w.end_reason-reason.ensures ∙ ap (λ (r : Route). cond (due a.t r) 2 0) (route_is (goal.at.loop-i-preserved c).After-route_at-r) in
+        rw (w.words-is, w.output-is, w.at-is, w.files-is) (
+          l.invariant.0,
+          turn_due _ _ _ _ _ v more ends_now (few (goal.at.loop-i-preserved c).After-route_at-r) limit (ap (λ (n : ℕ). l.at + n) (w.closed_size-size.ensures ∙ ap closed_size (route_is (goal.at.loop-i-preserved c).After-route_at-r)))
+              (w.close_file.ensures
+              ∙ ap (splice l.output l.at)
+              (closed_as (state a.words.now) a.store.now l.i w.end_reason-reason.result l.invariant.0 (route_is (goal.at.loop-i-preserved c).After-route_at-r) v.from ∙ ap (closed_file (state a.words.now) a.store.now l.i) reason))
+              (closed_length (state a.words.now) a.store.now l.i (end_reason (state a.words.now) a.t l.i) able.records able.filter (twenty a.words.now l.i (below (goal.at.loop-i-preserved c).After-route_at-r)))
+              w.close_file.auto.output
+              (w.closed_route-closed.ensures ∙ ap closed_route (route_is (goal.at.loop-i-preserved c).After-route_at-r)) w.put_route.ensures,
+        )
+      | else-is_ending w ↦
+        rw (w.words-is, w.output-is, w.at-is, w.files-is) (l.invariant.0, turn_not _ _ _ _ _ v more limit (sym (told (goal.at.loop-i-preserved c).After-is_ending) ∙ w.if-is_ending.false))
+    ]
 
 pub returns : goal.returns
 returns c =

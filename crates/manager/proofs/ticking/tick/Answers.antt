@@ -1,7 +1,7 @@
 -- `manager::ticking::tick` meets its contract: each way out is a case of the definition. The refusals that were passed say what
 -- the closings need. Assumes nothing.
 use mathlib.Core.Path.{◌≡◌, sym, ap, ◌∙◌}
-use mathlib.Core.List.{[]}
+use mathlib.Core.List.{List, []}
 use Prim.Native.Nat.{ℕ, ◌≤◌}
 use native.Mathlib.Omega.{arith}
 use lib.ListN.{length}
@@ -16,54 +16,58 @@ use Rattle.events.specs.Ways.{other_number, right_number, way_refused}
 use Rattle.events.specs.Cases.{Passed, common_passed, tick_refused, tick_short, tick_done}
 use Rattle.manager.specs.Tick.{ticked_none, ticked_made}
 use Rattle.manager.proofs.ticking.tick.Goals as goal
-use Rattle.manager.proofs.ticking.tick.Goals.{After-due_size-size, After-effective_time-t, Else-number-ne0, Else-words-ne360, Start}
+use Rattle.manager.proofs.ticking.tick.Goals.{After-due_size-size, After-effective_time-t, Else-number-ne0, Else-words-ne360}
 
 -- The state, and the event on it.
-abbrev state : goal.Start → Manager
-state s = manager_in s.args.words.now
+abbrev state : List ℕ → Manager
+state words = manager_in words
 
-abbrev event : goal.Start → Manager → After
-event s m = tick_of m s.args.store.now s.args.output.now s.args.time
+abbrev event : List ℕ → List ℕ → ℕ → Manager → After
+event store output time m = tick_of m store output time
 
 -- the words are as many as a state has
 right : (c : goal.Else-words-ne360) → length c.args.words.now ≡ 360
 right c = c.if-words-ne360.false
 
 -- none of the first refusals applies
-passes : (c : goal.Else-number-ne0) → first (common (state c.Start) (length c.args.store.now) c.args.time []) ≡ 0
+passes : (c : goal.Else-number-ne0) → first (common (state c.args.words.now) (length c.args.store.now) c.args.time []) ≡ 0
 passes c = sym c.common_refusal-number.ensures ∙ c.if-number-ne0.false
 
 -- so the state is within its bounds
-ready : (c : goal.Else-number-ne0) → Passed (state c.Start) (length c.args.store.now) c.args.time
-ready c = let a = c.args in (common_passed (state c.Start) (length a.store.now) a.time [] (passes c)).0
+ready : (c : goal.Else-number-ne0) → Passed (state c.args.words.now) (length c.args.store.now) c.args.time
+ready c = let a = c.args in (common_passed (state c.args.words.now) (length a.store.now) a.time [] (passes c)).0
 
-time_is : (c : goal.After-effective_time-t) → c.effective_time-t.result ≡ effective (state c.Start) c.args.time
+time_is : (c : goal.After-effective_time-t) → c.effective_time-t.result ≡ effective (state c.args.words.now) c.args.time
 unfolding manager_in
 time_is c = c.effective_time-t.ensures
 
 -- which is in range
 early : (c : goal.After-effective_time-t) → c.effective_time-t.result ≤ 52595999
-early c = let p = ready c.Else-number-ne0 in omega (arith, time_is c, p.state.last, p.early)
+early c =
+    let a = c.args in
+    let p = (common_passed (state a.words.now) (length a.store.now) a.time [] (sym c.common_refusal-number.ensures ∙ c.if-number-ne0.false)).0 in
+    omega (arith, time_is c, p.state.last, p.early)
 
 needed : (c : goal.After-due_size-size)
-    → c.due_size-size.result ≡ due_size (state (start c.Else-number-ne0)) (effective (state (start c.Else-number-ne0)) (start c.Else-number-ne0).args.time) (state (start c.Else-number-ne0)).count
+    → c.due_size-size.result ≡ due_size (state c.args.words.now) (effective (state c.args.words.now) c.args.time) (state c.args.words.now).count
+unfolding manager_in
 needed c =
-    c.due_size-size.ensures
-    ∙ (λ i. due_size (state (start c.Else-number-ne0)) (time_is c.After-effective_time-t i) (c.count_of-n.ensures i))
+    let early_time : c.effective_time-t.result ≡ effective (state c.args.words.now) c.args.time = c.effective_time-t.ensures in
+    c.due_size-size.ensures ∙ (λ i. due_size (state c.args.words.now) (early_time i) (c.count_of-n.ensures i))
 
 pub returns-then-words-ne360 : goal.returns-then-words-ne360
 unfolding tick_on
 returns-then-words-ne360 c =
     let a = c.args in
-    other_number a.words.now a.store.now a.output.now (event (goal.at.returns-then-words-ne360 c).Start) c.if-words-ne360.true c.refuse.ensures
+    other_number a.words.now a.store.now a.output.now (event a.store.now a.output.now a.time) c.if-words-ne360.true c.refuse.ensures
 
 pub returns-then-number-ne0 : goal.returns-then-number-ne0
 unfolding tick_on
 returns-then-number-ne0 c =
     let a = c.args in
     let number = c.common_refusal-number in
-    way_refused a.words.now a.store.now a.output.now (event s) (right (goal.at.returns-then-number-ne0 c).Else-words-ne360) number.result 0 c.refuse-then-number-ne0.ensures
-    (tick_refused (state s) a.store.now a.output.now a.time number.result number.ensures c.if-number-ne0.true)
+    way_refused a.words.now a.store.now a.output.now (event a.store.now a.output.now a.time) (right (goal.at.returns-then-number-ne0 c).Else-words-ne360) number.result 0 c.refuse-then-number-ne0.ensures
+    (tick_refused (state a.words.now) a.store.now a.output.now a.time number.result number.ensures c.if-number-ne0.true)
 
 pub due_size-size-requires : goal.due_size-size-requires
 due_size-size-requires c =
@@ -74,20 +78,20 @@ unfolding tick_on
 returns-then-output-size c =
     let a = c.args in
     let n = needed (goal.at.returns-then-output-size c).After-due_size-size in
-    way_refused a.words.now a.store.now a.output.now (event (goal.at.returns-then-output-size c).Start) (right (goal.at.returns-then-output-size c).Else-words-ne360) 17 c.due_size-size.result c.refuse-then-output-size.ensures
-    (ap (λ (k : ℕ). after (refused 17 k (state (goal.at.returns-then-output-size c).Start)) a.store.now a.output.now) n
-    ∙ tick_short (state (goal.at.returns-then-output-size c).Start) a.store.now a.output.now a.time (passes (goal.at.returns-then-output-size c).Else-number-ne0) (omega (arith, n, c.if-output-size.true)))
+    way_refused a.words.now a.store.now a.output.now (event a.store.now a.output.now a.time) (right (goal.at.returns-then-output-size c).Else-words-ne360) 17 c.due_size-size.result c.refuse-then-output-size.ensures
+    (ap (λ (k : ℕ). after (refused 17 k (state a.words.now)) a.store.now a.output.now) n
+    ∙ tick_short (state a.words.now) a.store.now a.output.now a.time (passes (goal.at.returns-then-output-size c).Else-number-ne0) (omega (arith, n, c.if-output-size.true)))
 
 pub returns-then-size-eq0 : goal.returns-then-size-eq0
 unfolding tick_on
 returns-then-size-eq0 c =
     let a = c.args in
-    let m = state (goal.at.returns-then-size-eq0 c).Start in
+    let m = state a.words.now in
     let n = c.count_of-n.ensures in
     let zero = c.due_size-size.ensures in
     let none = ticked_none a.words.now a.store.now a.output.now c.effective_time-t.result c.count_of-n.result (right (goal.at.returns-then-size-eq0 c).Else-words-ne360) (sym zero ∙ c.if-size-eq0.true) in
     ticked_made m a.store.now a.output.now a.time (time_is (goal.at.returns-then-size-eq0 c).After-effective_time-t) n (sym c.if-size-eq0.true ∙ zero) none c.accept.ensures
-    ∙ right_number a.words.now a.store.now a.output.now (event (goal.at.returns-then-size-eq0 c).Start) (right (goal.at.returns-then-size-eq0 c).Else-words-ne360)
+    ∙ right_number a.words.now a.store.now a.output.now (event a.store.now a.output.now a.time) (right (goal.at.returns-then-size-eq0 c).Else-words-ne360)
     (tick_done m a.store.now a.output.now a.time (passes (goal.at.returns-then-size-eq0 c).Else-number-ne0) (omega (arith, needed (goal.at.returns-then-size-eq0 c).After-due_size-size, c.if-output-size.false)))
 
 pub close_due-files-requires : goal.close_due-files-requires
@@ -107,9 +111,9 @@ pub returns : goal.returns
 unfolding tick_on
 returns c =
     let a = c.args in
-    let m = state (goal.at.returns c).Start in
+    let m = state a.words.now in
     let d = c.close_due-files in
     let n = c.count_of-n.ensures in
     ticked_made m a.store.now a.output.now a.time (time_is (goal.at.returns c).After-effective_time-t) n c.due_size-size.ensures d.ensures c.accept-2.ensures
-    ∙ right_number a.words.now a.store.now a.output.now (event (goal.at.returns c).Start) (right (goal.at.returns c).Else-words-ne360)
+    ∙ right_number a.words.now a.store.now a.output.now (event a.store.now a.output.now a.time) (right (goal.at.returns c).Else-words-ne360)
     (tick_done m a.store.now a.output.now a.time (passes (goal.at.returns c).Else-number-ne0) (omega (arith, needed (goal.at.returns c).After-due_size-size, c.if-output-size.false)))

@@ -34,7 +34,7 @@ returns-then-unrouted-room c =
 pub overflow_add-more : goal.overflow_add-more
 overflow_add-more c =
     let least = eqb-false (get_or c.args.words.now 7 0) 4294967295 (or_false (eqb (get_or c.args.words.now 7 0) 4294967295) (not c.can_note-room.result) (rises c)).0 in
-    omega (arith, c.type_inv.words 7, least)
+    omega (arith, least)
 
 pub note_routes-requires : goal.note_routes-requires
 note_routes-requires c =
