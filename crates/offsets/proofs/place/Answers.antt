@@ -5,10 +5,10 @@ use lib.ListN.{drop, length-drop, length-set}
 use Rattle.record.specs.Step.{Taken, taken, untaken}
 use Rattle.offsets.specs.Offsets.{placing_none, placing_on, placing_cut, placing_full}
 use Rattle.offsets.proofs.place.Goals as goal
-use Rattle.offsets.proofs.place.Goals.{At-loop-n, Else-s-ne0}
+use Rattle.offsets.proofs.place.Goals.{Else-s-ne0}
 
 -- what the step that was taken says of the file from `at` on
-found : (c : goal.Else-s-ne0) → Taken (drop c.loop-n.at (start c.At-loop-n).args.file.now) c.step_at-s.result
+found : (c : goal.Else-s-ne0) → Taken (drop c.loop-n.at c.args.file.now) c.step_at-s.result
 found c = taken _ _ c.step_at-s.ensures c.if-s-ne0.false
 
 pub loop-n-init : goal.loop-n-init

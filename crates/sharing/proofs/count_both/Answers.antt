@@ -8,7 +8,6 @@ use Rattle.recordorder.specs.At.{record_at}
 use Rattle.multisets.specs.InBoth.{stepwise}
 use Rattle.sharing.specs.Counting.{same_octets, turn_moves, Counting, counting_none, counting_on, counting_first_end, counting_second_end}
 use Rattle.sharing.proofs.count_both.Goals as goal
-use Rattle.sharing.proofs.count_both.Goals.{After-one_if-j, At-loop-i}
 
 abbrev total : List ℕ → List ℕ → List ℕ → List ℕ → ℕ
 total f x g y = stepwise same_octets (map (record_at f) x) (map (record_at g) y)
@@ -18,9 +17,6 @@ loop-i-init c =
     let a = c.args in
     (search rules, search rules, search rules, counting_none (record_at a.f.now) (record_at a.g.now) a.x.now a.y.now c.requires.0 c.requires.1)
 
-abbrev turned : goal.After-one_if-j → goal.At-loop-i
-turned c = c.At-loop-i
-
 pub returns-then-y-j : goal.returns-then-y-j
 returns-then-y-j c =
     let a = c.args in
@@ -29,13 +25,13 @@ returns-then-y-j c =
 
 pub loop-i-smaller : goal.loop-i-smaller
 loop-i-smaller c =
-    let l = (turned c).loop in
+    let l = c.loop-i in
     omega (arith, (turn_moves c.compare-order.result).0, c.one_if-i.ensures.0, c.one_if-j.ensures.0)
 
 pub loop-i-preserved : goal.loop-i-preserved
 loop-i-preserved c =
-    let a = (start (turned c)).args in
-    let l = (turned c).loop in
+    let a = c.args in
+    let l = c.loop-i in
     let o = c.compare-order.result in
     let m = c.one_if-n.ensures.0 in
     let p = c.one_if-i.ensures.0 in
