@@ -50,8 +50,8 @@ pub fn refusal_words(refusal: u8) -> String {
         8 => "its length",
         9 => "its header length",
         10 => "a timestamp or a reserved length",
-        11 => "a record is cut or has the reserved length",
-        12 => "its count of records",
+        11 => "a record",
+        12 => "its count",
         _ => "its high or low release",
     };
     format!("{refusal}, {what}")
