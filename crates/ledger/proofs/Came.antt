@@ -10,7 +10,7 @@ use Rattle.state.specs.SetTimes.{SetWithin}
 use Rattle.words.specs.Laws.{same_test}
 use Rattle.events.specs.Met.{met, Met, met_true, true_met}
 use Rattle.ledger.specs.Ledger.{next_with, one_came}
-use Rattle.ledger.specs.Agrees.{AgreesSets}
+use Rattle.ledger.proofs.Agrees.{AgreesSets}
 
 -- the paper's rule, of a list of set minutes
 pub record Came (bias opened t : ℕ) (minutes : List ℕ) : Type 0 where

@@ -21,7 +21,7 @@ use Rattle.state.specs.Loss.{indicator}
 use Rattle.filing.specs.Closing.{closed_file, closed_size, header_size_lem}
 use Rattle.events.specs.Rules.{later, earlier}
 use Rattle.ledger.specs.Ledger.{OpenFile, Line, Ledger, greatest, highest, least, lowest, size_of, file_from}
-use Rattle.ledger.specs.Agrees.{AgreesOpen, AgreesLine}
+use Rattle.ledger.proofs.Agrees.{AgreesOpen, AgreesLine}
 
 -- The greatest and the least release of some records have the greatest and the least place in the order.
 module _ (a b : Release) where

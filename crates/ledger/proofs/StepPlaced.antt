@@ -30,12 +30,12 @@ use Rattle.events.specs.Receive.{record_of, turns, ready, finished, store_with, 
 use Rattle.ledger.specs.Ledger.{OpenFile, Current, none, some, Line, Ledger, line_at, highest, lowest, size_of, file_from, close_line, with_current, received_line, append_to, Closing, lengths, Entry, differs_from, exceeds_with, Ready, open_for, turn_over, ready_by, append_entry, places}
 use Rattle.ledger.specs.Ledger.{with_line, with_time as with_book_time}
 use Rattle.ledger.specs.Run.{joined}
-use Rattle.ledger.specs.Agrees.{AgreesOpen, AgreesLine, Agrees}
+use Rattle.ledger.proofs.Agrees.{AgreesOpen, AgreesLine, Agrees}
 use Rattle.events.specs.Right.{FileFacts, Appends, opened_right, appended_right}
-use Rattle.ledger.specs.Files.{closed_same, size_is, file_right_lem}
-use Rattle.ledger.specs.Lines.{line_closed, line_live, open_agrees, close_agrees, received_agrees, append_agrees, same_format, differs_agrees, exceeds_agrees, full_agrees, differs_closed, exceeds_closed, record_size_lem}
-use Rattle.ledger.specs.Regions.{few, bias_right, region_within, regions_count, route_same, base_with, agrees_with, lines_elsewhere}
-use Rattle.ledger.specs.Steps.{AllRightFiles, state_kept}
+use Rattle.ledger.proofs.Files.{closed_same, size_is, file_right_lem}
+use Rattle.ledger.proofs.Lines.{line_closed, line_live, open_agrees, close_agrees, received_agrees, append_agrees, same_format, differs_agrees, exceeds_agrees, full_agrees, differs_closed, exceeds_closed, record_size_lem}
+use Rattle.ledger.proofs.Regions.{few, bias_right, region_within, regions_count, route_same, base_with, agrees_with, lines_elsewhere}
+use Rattle.ledger.proofs.Steps.{AllRightFiles, state_kept}
 
 -- Closings one behind another.
 joined_append : (cs ds : List Closing) → joined (cs ++ ds) ≡ joined cs ++ joined ds

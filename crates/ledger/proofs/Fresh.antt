@@ -15,8 +15,8 @@ use Rattle.settings.specs.Sets.{set_count_is, set_minute_is}
 use Rattle.settings.specs.Accepted.{refusal_is, accepted_right, accepted_route}
 use Rattle.ledger.specs.Ledger.{line_at, no_line}
 use Rattle.ledger.specs.Run.{line_from, lines_from, sets_from, ledger_from}
-use Rattle.ledger.specs.Agrees.{Agrees, AgreesLine, AgreesSets}
-use Rattle.ledger.specs.Lists.{fresh_length}
+use Rattle.ledger.proofs.Agrees.{Agrees, AgreesLine, AgreesSets}
+use Rattle.ledger.proofs.Lists.{fresh_length}
 
 -- the lines by number
 lines_length : (xs : List ℕ) (n : ℕ) → length (lines_from xs n) ≡ n

@@ -22,12 +22,12 @@ use Rattle.ledger.specs.Event.{close_event}
 use Rattle.ledger.specs.Ledger.{OpenFile, Current, none, some, Ledger, line_at, is_open, Entry, lengths, file_from, close_line, close_entry, carried, needed_by, answer_of, entry_of}
 use Rattle.ledger.specs.Ledger.{effective as book_time}
 use Rattle.ledger.specs.Run.{happens}
-use Rattle.ledger.specs.Agrees.{Agrees, AgreesOpen}
-use Rattle.ledger.specs.Files.{closed_same, closed_size_lem, size_is, file_right_lem}
-use Rattle.ledger.specs.Lines.{open_same, line_live, close_agrees}
-use Rattle.ledger.specs.Regions.{bias_right, last_right, settings_right_lem, settings_bounds, file_bounds, agrees_with}
-use Rattle.ledger.specs.Refusals.{close_refusal}
-use Rattle.ledger.specs.Steps.{Holds, answer_at, event_holds, common_passed, effective_right, time_same, state_kept}
+use Rattle.ledger.proofs.Agrees.{Agrees, AgreesOpen}
+use Rattle.ledger.proofs.Files.{closed_same, closed_size_lem, size_is, file_right_lem}
+use Rattle.ledger.proofs.Lines.{open_same, line_live, close_agrees}
+use Rattle.ledger.proofs.Regions.{bias_right, last_right, settings_right_lem, settings_bounds, file_bounds, agrees_with}
+use Rattle.ledger.proofs.Refusals.{close_refusal}
+use Rattle.ledger.proofs.Steps.{Holds, answer_at, event_holds, common_passed, effective_right, time_same, state_kept}
 
 -- A configured route with an open file.
 module _ {store : List ℕ} {m : Manager} {l : Ledger} (a : Agrees store m l) (i : ℕ) (h : i < m.count) (f : OpenFile) (c : (line_at l i).current ≡ some f) where

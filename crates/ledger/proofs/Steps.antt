@@ -22,11 +22,11 @@ use Rattle.ledger.specs.Ledger.{Ledger, line_at, Closing, Entry, lengths, open_l
 use Rattle.ledger.specs.Ledger.{effective as book_time}
 use Rattle.ledger.specs.Ledger.{route_of as route_booked}
 use Rattle.ledger.specs.Run.{happens, joined}
-use Rattle.ledger.specs.Agrees.{Agrees}
+use Rattle.ledger.proofs.Agrees.{Agrees}
 use Rattle.events.specs.Right.{opened_right}
-use Rattle.ledger.specs.Lines.{open_agrees}
-use Rattle.ledger.specs.Regions.{few, last_right, settings_right_lem, settings_bounds, agrees_with}
-use Rattle.ledger.specs.Refusals.{open_refusal}
+use Rattle.ledger.proofs.Lines.{open_agrees}
+use Rattle.ledger.proofs.Regions.{few, last_right, settings_right_lem, settings_bounds, agrees_with}
+use Rattle.ledger.proofs.Refusals.{open_refusal}
 
 abbrev pub AllRightFiles : List Closing → Type 0
 AllRightFiles [] = Unit {0}

@@ -19,7 +19,7 @@ use Rattle.ledger.specs.Ledger.{none, Line, Ledger, no_line, line_at, Closing, E
 use Rattle.ledger.specs.Packets.{Packed, nothing, and_then, receives_each, receives_list, packet_of}
 use Rattle.ledger.specs.Run.{Done, said_in, Booked, booked, books_of, booked_in, closings_in, ledger_after, line_from, lines_from, ledger_from}
 use Rattle.ledger.specs.Demand3.{received_on, lost_rule, lost_there, LostExactly, unrouted_by, one, received, lost, unrouted, placed_if, placed, on_route, closed_on, AllBelow, Answered}
-use Rattle.ledger.specs.Books.{flat, held, held_flat, known, noted, Counted, Small, Step, stays, behind, Same, same_self, same_behind, same_length, same_settings, same_routed, same_received, same_lost, same_unrouted, below_append, on_append, entry_moves}
+use Rattle.ledger.proofs.Books.{flat, held, held_flat, known, noted, Counted, Small, Step, stays, behind, Same, same_self, same_behind, same_length, same_settings, same_routed, same_received, same_lost, same_unrouted, below_append, on_append, entry_moves}
 
 -- The counts of Demand3 depend on the settings alone,
 module _ {l m : Ledger} (h : Same l m) where

@@ -17,10 +17,10 @@ use Rattle.events.specs.Receive.{counters_full as manager_full}
 use Rattle.ledger.specs.Event.{open_event, close_event, tick_event}
 use Rattle.ledger.specs.Ledger.{Ledger, line_at, is_open, among_lines, routed_to, closing_reasons, is_one_of, needed_by, refusal}
 use Rattle.ledger.specs.Ledger.{regions as line_regions}
-use Rattle.ledger.specs.Agrees.{Agrees}
-use Rattle.ledger.specs.Regions.{regions_same}
-use Rattle.ledger.specs.Lines.{open_same}
-use Rattle.ledger.specs.Words.{reason_same}
+use Rattle.ledger.proofs.Agrees.{Agrees}
+use Rattle.ledger.proofs.Regions.{regions_same}
+use Rattle.ledger.proofs.Lines.{open_same}
+use Rattle.ledger.proofs.Words.{reason_same}
 
 -- a test that is false stands for nothing
 skip : (n : ℕ) (b : Bool) (rest : ℕ) → b ≡ false → cond b n rest ≡ rest

@@ -15,8 +15,8 @@ use Rattle.state.specs.Compared.{up_to_differing, compared_with, compared_among,
 use Rattle.events.specs.declared.Arrival.{Arrival}
 use Rattle.events.specs.Rules.{compared_to}
 use Rattle.ledger.specs.Ledger.{Line, Ledger, no_line, line_at, steps_to, compared_on, compared_lines}
-use Rattle.ledger.specs.Agrees.{Agrees}
-use Rattle.ledger.specs.Regions.{settings_bounds}
+use Rattle.ledger.proofs.Agrees.{Agrees}
+use Rattle.ledger.proofs.Regions.{settings_bounds}
 
 -- An octet more before the others: the same in both, or not.
 module _ (x y : ℕ) (xs ys : List ℕ) where

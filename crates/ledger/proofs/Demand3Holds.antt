@@ -27,15 +27,15 @@ use Rattle.words.specs.Laws.{count_in}
 use Rattle.ledger.specs.Event.{open_event, close_event, tick_event, receive_event, Lent, heard}
 use Rattle.ledger.specs.Ledger.{Current, none, some, line_at, records_in, records_of, Closing}
 use Rattle.ledger.specs.Run.{run_of, books_of, closings_in, end_of, store_after, ledger_after, ledger_from}
-use Rattle.ledger.specs.Agrees.{AgreesLine, AgreesFile}
-use Rattle.ledger.specs.Books.{flat, held, known, noted, Counted, same_length}
-use Rattle.ledger.specs.Lists.{ran, heard_by, said_same, fresh_length, fresh_received, fresh_lost, fresh_closed, fresh_records, fresh_known, fresh_noted, fresh_counted, fresh_sum, fresh_unrouted}
-use Rattle.ledger.specs.Steps.{AllRightFiles, open_holds}
-use Rattle.ledger.specs.StepClose.{close_holds}
-use Rattle.ledger.specs.StepTick.{tick_holds}
-use Rattle.ledger.specs.StepReceive.{receive_holds}
-use Rattle.ledger.specs.Claim.{EventHolds, runs}
-use Rattle.ledger.specs.Fresh.{fresh_agrees}
+use Rattle.ledger.proofs.Agrees.{AgreesLine, AgreesFile}
+use Rattle.ledger.proofs.Books.{flat, held, known, noted, Counted, same_length}
+use Rattle.ledger.proofs.Lists.{ran, heard_by, said_same, fresh_length, fresh_received, fresh_lost, fresh_closed, fresh_records, fresh_known, fresh_noted, fresh_counted, fresh_sum, fresh_unrouted}
+use Rattle.ledger.proofs.Steps.{AllRightFiles, open_holds}
+use Rattle.ledger.proofs.StepClose.{close_holds}
+use Rattle.ledger.proofs.StepTick.{tick_holds}
+use Rattle.ledger.proofs.StepReceive.{receive_holds}
+use Rattle.ledger.proofs.Claim.{EventHolds, runs}
+use Rattle.ledger.proofs.Fresh.{fresh_agrees}
 use Rattle.ledger.specs.Demand3.{AllGiven, LostExactly, received, lost, unrouted, placed, counted, walked, AllAccepted, AllCounted, losses_in, unrouted_in, on_route, closed_on, AllBelow, open_count, happened, Demand3, Claim}
 
 -- A right file as the reader reads it.

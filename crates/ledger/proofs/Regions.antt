@@ -16,7 +16,7 @@ use Rattle.state.specs.Within.{SettingsWithin, within_settings, FileWithin, with
 pub use Rattle.state.specs.Regions.{region_within}
 use Rattle.state.specs.Regions.{regions_all}
 use Rattle.ledger.specs.Ledger.{Current, none, some, Line, Ledger, no_line, line_at, with_line, with_time as with_book_time, regions as line_regions}
-use Rattle.ledger.specs.Agrees.{AgreesFile, AgreesLine, Agrees}
+use Rattle.ledger.proofs.Agrees.{AgreesFile, AgreesLine, Agrees}
 
 -- Routes and lines by index.
 module _ (m : Manager) (i : ℕ) (r : Route) where

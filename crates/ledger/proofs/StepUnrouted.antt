@@ -14,10 +14,10 @@ use Rattle.events.specs.Rules.{lost_route, noted_route}
 use Rattle.events.specs.Events.{answered}
 use Rattle.events.specs.Receive.{noted, unrouted, lost_at}
 use Rattle.ledger.specs.Ledger.{Line, Ledger, no_line, line_at, lost_line, noted_line, noted_lines, loses, unroutes}
-use Rattle.ledger.specs.Agrees.{AgreesLine, Agrees}
-use Rattle.ledger.specs.Lines.{lost_agrees, noted_agrees}
-use Rattle.ledger.specs.Regions.{few, settings_with, agrees_with}
-use Rattle.ledger.specs.Steps.{Holds, state_kept}
+use Rattle.ledger.proofs.Agrees.{AgreesLine, Agrees}
+use Rattle.ledger.proofs.Lines.{lost_agrees, noted_agrees}
+use Rattle.ledger.proofs.Regions.{few, settings_with, agrees_with}
+use Rattle.ledger.proofs.Steps.{Holds, state_kept}
 
 -- Routes on which it is counted, by index.
 module _ (m : Manager) where

@@ -21,7 +21,7 @@ use Rattle.events.specs.declared.Arrival.{Arrival}
 use Rattle.events.specs.Rules.{opened_route, closed_route, lost_route, noted_route, appended_route, later, earlier, high_with, low_with, differs, exceeds, full, due, ending, record_size}
 use Rattle.events.specs.Receive.{record_of}
 use Rattle.ledger.specs.Ledger.{OpenFile, Current, none, some, Line, is_open, greatest, highest, least, lowest, size_of, open_line, close_line, with_current, received_line, lost_line, noted_line, append_to, due_file, differs_one, differs_from, exceeds_with, full_with}
-use Rattle.ledger.specs.Agrees.{Formats, AgreesOpen, AgreesFile, AgreesLine}
+use Rattle.ledger.proofs.Agrees.{Formats, AgreesOpen, AgreesFile, AgreesLine}
 
 -- Which file is open.
 module _ {store : List ℕ} {b : ℕ} {r : Route} {x : Line} (a : AgreesLine store b r x) where

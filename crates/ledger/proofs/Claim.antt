@@ -24,11 +24,11 @@ use Rattle.ledger.specs.Ledger.{Ledger, Closing, lengths, rules, refusal, answer
 use Rattle.ledger.specs.Ledger.{regions as regions_booked}
 use Rattle.ledger.specs.Packets.{Packed, nothing, and_then, receives_each, receives_list, packet_of}
 use Rattle.ledger.specs.Run.{happens, leaves, Done, by_event, by_packet, done_by, run_of, Booked, by_entry, by_packed, booked, books_of, closings_in, joined, end_of, store_after, ledger_after}
-use Rattle.ledger.specs.Agrees.{Agrees}
-use Rattle.ledger.specs.Regions.{regions_same}
-use Rattle.ledger.specs.Books.{answer_refusal}
-use Rattle.ledger.specs.Steps.{AllRightFiles, Holds}
-use Rattle.ledger.specs.StepPlaced.{length_joined, right_append}
+use Rattle.ledger.proofs.Agrees.{Agrees}
+use Rattle.ledger.proofs.Regions.{regions_same}
+use Rattle.ledger.proofs.Books.{answer_refusal}
+use Rattle.ledger.proofs.Steps.{AllRightFiles, Holds}
+use Rattle.ledger.proofs.StepPlaced.{length_joined, right_append}
 use Rattle.ledger.specs.Demand3.{Given, GivenCall, AllGiven, Answered}
 
 -- 18 is no rule of the ledger's.

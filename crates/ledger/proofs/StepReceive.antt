@@ -27,15 +27,15 @@ use Rattle.ledger.specs.Ledger.{Ledger, line_at, Entry, lengths, among_lines, ro
 use Rattle.ledger.specs.Ledger.{effective as book_time}
 use Rattle.ledger.specs.Ledger.{regions as line_regions}
 use Rattle.ledger.specs.Run.{happens}
-use Rattle.ledger.specs.Agrees.{Agrees}
-use Rattle.ledger.specs.Regions.{regions_same}
-use Rattle.ledger.specs.Books.{routed_below, can_note_lem, none_full}
-use Rattle.ledger.specs.Words.{fields_same}
-use Rattle.ledger.specs.Refusals.{routes_same}
-use Rattle.ledger.specs.Compares.{compared_same}
-use Rattle.ledger.specs.Steps.{Holds, answer_at, event_holds, common_passed, effective_right, time_same}
-use Rattle.ledger.specs.StepUnrouted.{unrouted_holds, lost_holds}
-use Rattle.ledger.specs.StepPlaced.{placed, placed_long, length_joined}
+use Rattle.ledger.proofs.Agrees.{Agrees}
+use Rattle.ledger.proofs.Regions.{regions_same}
+use Rattle.ledger.proofs.Books.{routed_below, can_note_lem, none_full}
+use Rattle.ledger.proofs.Words.{fields_same}
+use Rattle.ledger.proofs.Refusals.{routes_same}
+use Rattle.ledger.proofs.Compares.{compared_same}
+use Rattle.ledger.proofs.Steps.{Holds, answer_at, event_holds, common_passed, effective_right, time_same}
+use Rattle.ledger.proofs.StepUnrouted.{unrouted_holds, lost_holds}
+use Rattle.ledger.proofs.StepPlaced.{placed, placed_long, length_joined}
 
 -- The record of an arrival whose fields are not wrong, that is marked 0, is right.
 module _ (v : Arrival) (body : List ℕ) (key : ℕ) (fields : wrong_fields v key ≡ false) (zero_mark : v.mark ≡ 0) where

@@ -21,13 +21,13 @@ use Rattle.ledger.specs.Event.{tick_event}
 use Rattle.ledger.specs.Ledger.{OpenFile, Current, none, some, Line, Ledger, line_at, file_from, close_line, with_line, Closing, Entry, lengths, due_file, one_came, minutes_at, goes_on, ends_with, close_by, close_due, tick_to, carried, needed_by, answer_of, entry_of}
 use Rattle.ledger.specs.Ledger.{with_time as with_book_time, effective as book_time}
 use Rattle.ledger.specs.Run.{happens, joined}
-use Rattle.ledger.specs.Agrees.{AgreesLine, Agrees}
-use Rattle.ledger.specs.Came.{met_came}
-use Rattle.ledger.specs.Lines.{line_live, close_agrees, due_agrees, ending_closed}
-use Rattle.ledger.specs.Regions.{last_right, settings_right_lem, route_other, line_other, agrees_with, agrees_time}
-use Rattle.ledger.specs.Refusals.{tick_refusal}
-use Rattle.ledger.specs.Steps.{AllRightFiles, Holds, answer_at, event_holds, common_passed, effective_right, time_same, state_kept}
-use Rattle.ledger.specs.StepClose.{file_same, size_same, right_file}
+use Rattle.ledger.proofs.Agrees.{AgreesLine, Agrees}
+use Rattle.ledger.proofs.Came.{met_came}
+use Rattle.ledger.proofs.Lines.{line_live, close_agrees, due_agrees, ending_closed}
+use Rattle.ledger.proofs.Regions.{last_right, settings_right_lem, route_other, line_other, agrees_with, agrees_time}
+use Rattle.ledger.proofs.Refusals.{tick_refusal}
+use Rattle.ledger.proofs.Steps.{AllRightFiles, Holds, answer_at, event_holds, common_passed, effective_right, time_same, state_kept}
+use Rattle.ledger.proofs.StepClose.{file_same, size_same, right_file}
 
 -- Files with one more behind them.
 pub joined_snoc : (cs : List Closing) (c : Closing) → joined (cs ++ (c ∷ [])) ≡ joined cs ++ layout c.file
