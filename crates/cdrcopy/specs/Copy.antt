@@ -7,7 +7,7 @@ use Rattle.octets.specs.Number.{Octets}
 use Rattle.octets.specs.Splice.{splice, splice_there}
 use Rattle.reader.specs.Reader.{read_of}
 use Rattle.writer.specs.Writer.{After, after}
-use Rattle.roundtrip.specs.Proof.{demand_2}
+use Rattle.roundtrip.proofs.Demand2Holds.{demand_2}
 use Rattle.cdrcopy.specs.Rewrite.{rewrite_of, rewrite_refused, rewrite_accepted}
 
 -- the octets that `copy` writes out where nothing was refused: the first of the output, as many as the answer says

@@ -23,7 +23,7 @@ use Rattle.writer.specs.Writer.{after, write_of}
 use Rattle.writer.specs.Writer.{verdict as writer_verdict}
 use Rattle.roundtrip.specs.Held.{Held}
 use Rattle.roundtrip.specs.Demand2.{reader_rules, Call, left_by, writer_rules}
-use Rattle.roundtrip.specs.Limits.{reads_over, reads_under, many, tested_octets, writes_13, writes_8, writes_17, writes_all, reads_all}
+use Rattle.roundtrip.proofs.Limits.{reads_over, reads_under, many, tested_octets, writes_13, writes_8, writes_17, writes_all, reads_all}
 use Rattle.edge_table.specs.EdgeTable.{timed_stating, stating, record_part, octets, midnight}
 
 -- the numbers of all rules that apply

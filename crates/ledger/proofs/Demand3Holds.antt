@@ -15,8 +15,8 @@ use Rattle.roundtrip.specs.Described.{RightFile}
 use Rattle.reader.specs.declared.Contents.{Contents}
 use Rattle.reader.specs.Reader.{contents_of, read_of}
 use Rattle.roundtrip.specs.Handed.{handed_back}
-use Rattle.roundtrip.specs.Accepted.{accepts}
-use Rattle.roundtrip.specs.Complete.{complete, handed_again}
+use Rattle.roundtrip.proofs.Accepted.{accepts}
+use Rattle.roundtrip.proofs.Complete.{complete, handed_again}
 use Rattle.state.specs.declared.Route.{Route}
 use Rattle.state.specs.Manager.{Manager}
 use Rattle.state.specs.Manager.{route_at, base}

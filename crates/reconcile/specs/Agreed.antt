@@ -13,9 +13,9 @@ use Rattle.reader.specs.Places.{header_length_at}
 use Rattle.reader.specs.Reader.{read_of}
 use Rattle.reader.specs.Frame.{Sized, sized}
 use Rattle.roundtrip.specs.Handed.{handed_back}
-use Rattle.roundtrip.specs.Accepted.{Accepted, accepts, accepted}
-use Rattle.roundtrip.specs.Back.{read_number, back}
-use Rattle.roundtrip.specs.Proof.{demand_2}
+use Rattle.roundtrip.proofs.Accepted.{Accepted, accepts, accepted}
+use Rattle.roundtrip.proofs.Back.{read_number, back}
+use Rattle.roundtrip.proofs.Demand2Holds.{demand_2}
 use Rattle.multisets.specs.InBoth.{Equality, in_both}
 use Rattle.multisets.specs.Surplus.{only_in, both_and_only, both_turned}
 use Rattle.recordorder.specs.At.{record_at}

@@ -1,16 +1,6 @@
 pub mod Described
-pub mod Ordered
 pub mod Handed
 pub mod Held
 pub mod Stepping
-pub mod Steps
-pub mod Accepted
-pub mod Sound
-pub mod Back
-pub mod Write
-pub mod Complete
-pub mod Refused
 pub mod Exactly
 pub mod Demand2
-pub mod Proof
-pub mod Limits

@@ -20,13 +20,13 @@ use Rattle.cdrfile.specs.File.{File, fixed_octets, file_octets, layout, header_l
 use Rattle.cdrfile.specs.Order.{wrong_order}
 use Rattle.roundtrip.specs.Described.{RightFile}
 use Rattle.cdrfile.specs.Laws.{file_length, private_none, private_some, private_some_length, extension_seven}
-use Rattle.roundtrip.specs.Ordered.{not_wrong}
+use Rattle.roundtrip.proofs.Ordered.{not_wrong}
 use Rattle.reader.specs.declared.Part.{Part}
 use Rattle.reader.specs.Places.{header_length_at, filter_length_at, extensions_of, plain_length, private_length_at, private_part, statement_at, extensions_at, header_at}
 use Rattle.reader.specs.Reader.{wrong_length, wrong_header_length, wrong_value, header_of, body_of, contents_of, part_of}
 use Rattle.reader.specs.Frame.{header_frame, right_frame, frame_on, plain_taken, private_taken}
 use Rattle.reader.specs.Parts.{part_within}
-use Rattle.roundtrip.specs.Accepted.{Accepted}
+use Rattle.roundtrip.proofs.Accepted.{Accepted}
 use Rattle.roundtrip.specs.Handed.{listed, handed_back}
 
 -- a number's octets give the number; the left side computes to the sum of the digits, as it does wherever they stand in a list

@@ -6,8 +6,8 @@ use Rattle.cdrfile.specs.declared.Header.{Header}
 use Rattle.reader.specs.Reader.{refused_contents, read_of}
 use Rattle.reader.specs.Reader.{verdict as reader_verdict, settled as read_settled}
 use Rattle.writer.specs.Writer.{After, needed_octets, verdict, refused, settled, written, write_of}
-use Rattle.roundtrip.specs.Back.{read_number}
-use Rattle.roundtrip.specs.Write.{write_number}
+use Rattle.roundtrip.proofs.Back.{read_number}
+use Rattle.roundtrip.proofs.Write.{write_number}
 
 -- A file.
 read_by : (n : ℕ) (xs : List ℕ) → (n ≡ 0 → ⊥) → read_settled n xs ≡ refused_contents n

@@ -20,10 +20,10 @@ use Rattle.writer.specs.declared.Written.{Written}
 use Rattle.writer.specs.Writer.{After, after, wrong_fields, wrong_value, needed_octets, write_of}
 use Rattle.writer.specs.Cases.{answered, Passed, write_disordered, write_long, write_needing, write_done}
 use Rattle.roundtrip.specs.Described.{Ordered}
-use Rattle.roundtrip.specs.Ordered.{ordered, not_wrong}
+use Rattle.roundtrip.proofs.Ordered.{ordered, not_wrong}
 use Rattle.roundtrip.specs.Held.{Held}
 use Rattle.roundtrip.specs.Demand2.{Call, Plain, left_by}
-use Rattle.roundtrip.specs.Proof.{demand_2}
+use Rattle.roundtrip.proofs.Demand2Holds.{demand_2}
 
 -- The reader: any octets that are too many, and any that are too few, whatever they are.
 reads_8 : (x : List ℕ) → wrong_length x ≡ true → read_of x ≡ refused_contents 8

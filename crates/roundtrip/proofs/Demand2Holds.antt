@@ -21,14 +21,14 @@ use Rattle.reader.specs.Frame.{sized}
 use Rattle.writer.specs.Writer.{After, needed_octets, write_of}
 use Rattle.writer.specs.Writer.{verdict as writer_verdict}
 use Rattle.roundtrip.specs.Handed.{handed_back}
-use Rattle.roundtrip.specs.Accepted.{Accepted, accepts, accepted}
-use Rattle.roundtrip.specs.Sound.{file_at, body, layout_again, right_again}
-use Rattle.roundtrip.specs.Complete.{complete, handed_again}
-use Rattle.roundtrip.specs.Back.{read_number, records_back, back}
-use Rattle.roundtrip.specs.Write.{given, right_held, write_number, Taken, taken, body_is, layout_given, given_right, write_given, taken_right}
+use Rattle.roundtrip.proofs.Accepted.{Accepted, accepts, accepted}
+use Rattle.roundtrip.proofs.Sound.{file_at, body, layout_again, right_again}
+use Rattle.roundtrip.proofs.Complete.{complete, handed_again}
+use Rattle.roundtrip.proofs.Back.{read_number, records_back, back}
+use Rattle.roundtrip.proofs.Write.{given, right_held, write_number, Taken, taken, body_is, layout_given, given_right, write_given, taken_right}
 use Rattle.roundtrip.specs.Stepping.{stepped, stepped_to, NoneRefused}
-use Rattle.roundtrip.specs.Steps.{recovers}
-use Rattle.roundtrip.specs.Refused.{read_refused, refused_output, refused_needing, refused_octets}
+use Rattle.roundtrip.proofs.Steps.{recovers}
+use Rattle.roundtrip.proofs.Refused.{read_refused, refused_output, refused_needing, refused_octets}
 use Rattle.roundtrip.specs.Exactly.{NoneApplies, Exactly, none_joined, none_before, first_exactly}
 use Rattle.roundtrip.specs.Demand2.{reader_rules, Call, Plain, left_by, Accepts, file_of, file_size, writer_rules, Gives, Demand2}
 

@@ -19,7 +19,7 @@ use Rattle.cdrfile.specs.File.{File, file_octets, layout}
 use Rattle.cdrfile.specs.Order.{wrong_order}
 use Rattle.roundtrip.specs.Described.{RightFile}
 use Rattle.cdrfile.specs.Laws.{file_length}
-use Rattle.roundtrip.specs.Ordered.{ordered, not_wrong}
+use Rattle.roundtrip.proofs.Ordered.{ordered, not_wrong}
 use Rattle.writer.specs.Writer.{After, needed_octets, verdict, settled, written, write_of}
 use Rattle.writer.specs.Cases.{Passed, write_done, stated, widths, times, short, accepted}
 use Rattle.roundtrip.specs.Held.{Held}

@@ -17,13 +17,13 @@ use Rattle.record.specs.Format.{walked}
 use Rattle.cdrfile.specs.Statement.{agrees}
 use Rattle.cdrfile.specs.File.{File, private_octets, header_length, fixed_octets, file_octets, layout}
 use Rattle.roundtrip.specs.Described.{RightFile}
-use Rattle.roundtrip.specs.Ordered.{ordered}
+use Rattle.roundtrip.proofs.Ordered.{ordered}
 use Rattle.cdrfile.specs.Laws.{private_some, private_some_length}
 use Rattle.reader.specs.declared.Part.{Part}
 use Rattle.reader.specs.Places.{header_length_at, filter_length_at, extensions_of, has_private, private_length_at, private_part, statement_at, extensions_at, release_at, header_at}
 use Rattle.reader.specs.Reader.{header_of, body_of}
 use Rattle.reader.specs.Frame.{Sized, sized, records_begin}
-use Rattle.roundtrip.specs.Accepted.{Accepted}
+use Rattle.roundtrip.proofs.Accepted.{Accepted}
 
 -- the private part, by whether there is one
 abbrev part_by : Bool → List ℕ → Part

@@ -8,8 +8,8 @@ use Rattle.reader.specs.Reader.{body_of, part_of, verdict, settled, contents_of,
 use Rattle.reader.specs.Frame.{sized, records_begin}
 use Rattle.reader.specs.Parts.{part_within}
 use Rattle.roundtrip.specs.Handed.{listed, handed_back}
-use Rattle.roundtrip.specs.Accepted.{Accepted}
-use Rattle.roundtrip.specs.Sound.{file_at}
+use Rattle.roundtrip.proofs.Accepted.{Accepted}
+use Rattle.roundtrip.proofs.Sound.{file_at}
 
 -- the answer's number is the verdict
 settled_number : (n : ℕ) (xs : List ℕ) → (settled n xs).refusal ≡ n

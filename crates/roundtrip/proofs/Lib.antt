@@ -1,0 +1,10 @@
+pub mod Ordered
+pub mod Steps
+pub mod Accepted
+pub mod Sound
+pub mod Back
+pub mod Write
+pub mod Complete
+pub mod Refused
+pub mod Demand2Holds
+pub mod Limits
