@@ -1,4 +1,6 @@
 // The date of a local day from 1999-12-31 to 2100-01-01, worked out; and the most days that a month has.
+#![tactic(auto)]
+
 ghost use Rattle.std.specs.Prelude.{◌≡◌, ◌<◌};
 ghost use Rattle.calendar.specs.Calendar.{date_of, longest};
 

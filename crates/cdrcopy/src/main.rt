@@ -1,5 +1,7 @@
 // Reads a CDR file of up to 65,536 octets from standard input and writes it again from what the reader handed back, or writes a
 // line E with the refusal.
+#![tactic(auto)]
+
 ghost use Rattle.writer.specs.Writer.{after};
 ghost use Rattle.cdrcopy.specs.Copy.{Rewrites};
 
@@ -27,9 +29,7 @@ fn rewrite(file: &[u8], output: &mut [u8]) -> Written
 
 // The line of a refusal.
 fn print_refusal(stdout: Stdout, number: u8) -> bool {
-    write_all(stdout, b"E ")
-        && write_decimal(stdout, number as u64)
-        && write_all(stdout, b"\n")
+    write_all(stdout, b"E ") && write_decimal(stdout, number as u64) && write_all(stdout, b"\n")
 }
 
 // Writes a file again to standard output, or the line of its refusal.

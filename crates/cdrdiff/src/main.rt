@@ -1,5 +1,7 @@
 // Compares two CDR files that the arguments name, and says how many records are in both and how many in only one of them
 // (../shared/CDRDIFF.md).
+#![tactic(auto)]
+
 mod files;
 mod memory;
 mod words;

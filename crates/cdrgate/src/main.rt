@@ -1,4 +1,6 @@
 // Replays a script of events that stands on standard input on the manager, and prints every answer and every closed file.
+#![tactic(auto)]
+
 mod happening;
 mod packets;
 mod replay;

@@ -1,5 +1,7 @@
 // Lists a CDR file of up to 65,536 octets that stands on standard input: a line F for the file and a line R for each record, or
 // a line E with the refusal.
+#![tactic(auto)]
+
 use reader::Contents;
 use std::io::{Stdin, Stdout};
 use streams::{read_full, read_some, write_all, write_decimal};

@@ -1,4 +1,6 @@
 // Reads and writes file names: a line of standard input asks for one of them, and a line answers it.
+#![tactic(auto)]
+
 mod answers;
 mod asked;
 mod run;

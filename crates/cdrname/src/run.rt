@@ -75,7 +75,13 @@ fn turn(run: Run, number: u64, input: &mut [u8], line: &mut [u8], page: &mut [u8
     }
 }
 
-pub fn answer_all(stdin: Stdin, stdout: Stdout, input: &mut [u8], line: &mut [u8], page: &mut [u8]) {
+pub fn answer_all(
+    stdin: Stdin,
+    stdout: Stdout,
+    input: &mut [u8],
+    line: &mut [u8],
+    page: &mut [u8],
+) {
     let mut run = start(stdin, stdout);
     let mut number: u64 = 0;
     while number < turns_of(run.is_going, run.printer) {

@@ -1,4 +1,6 @@
 // Says in words what a CDR file holds, or what a replay of `cdrgate` came to; either stands on standard input.
+#![tactic(auto)]
+
 mod memory;
 mod replay;
 
@@ -7,5 +9,12 @@ fn main(rt: HostRuntime) {
     let mut line = memory::longest_line();
     let mut octets = io::large_buffer();
     let mut page = io::large_buffer();
-    replay::show(rt.stdin(), rt.stdout(), &mut buffer, &mut line, &mut octets, &mut page);
+    replay::show(
+        rt.stdin(),
+        rt.stdout(),
+        &mut buffer,
+        &mut line,
+        &mut octets,
+        &mut page,
+    );
 }

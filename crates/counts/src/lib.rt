@@ -1,4 +1,6 @@
 // The loss counts in a file's private extension (document 02, ask 3): written for a closing, and read out of any private octets.
+#![tactic(auto)]
+
 ghost use Rattle.std.specs.Prelude.{◌≡◌};
 ghost use Rattle.counts.specs.Counts.{count_octets, no_counts, counts_in};
 

@@ -1,6 +1,8 @@
 // The edge table's rows that are executed: timestamps, lost indicators, loss counts, damaged files, and the table's file, without
 // the loss counts and with them, read, stepped over and written. Each case is a line, and the file `stdout` has what is expected.
 // The starred rows are shown by evaluation in specs/EdgeTable.
+#![tactic(auto)]
+
 ghost use Rattle.std.specs.Prelude.{◌≡◌, ◌<◌, length};
 
 use std::io::Stdout;
@@ -79,7 +81,11 @@ fn far_stamps(stdout: Stdout) {
 fn indicator(stdout: Stdout, losses: u32) {
     field(stdout, b"losses ", losses as usize);
     field(stdout, b": ", state::lost_indicator(losses, false) as usize);
-    field(stdout, b", noted ", state::lost_indicator(losses, true) as usize);
+    field(
+        stdout,
+        b", noted ",
+        state::lost_indicator(losses, true) as usize,
+    );
     end(stdout);
 }
 

@@ -1,4 +1,6 @@
 // The public calls for programs in other languages, under C's calling convention: tests and benchmarks link them.
+#![tactic(auto)]
+
 ghost use Rattle.std.specs.Prelude.{◌≡◌};
 ghost use Rattle.record.specs.Step.{step_of, step_at};
 ghost use Rattle.reader.specs.Reader.{read_of};

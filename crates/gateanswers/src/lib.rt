@@ -1,4 +1,6 @@
 // The lines that the gate prints: an answer, what came of a packet, the files that were closed, the state.
+#![tactic(auto)]
+
 ghost use Rattle.std.specs.Prelude.{◌≡◌, ◌+◌, ◌≤◌, length};
 
 use events::Answer;

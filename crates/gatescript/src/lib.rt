@@ -1,4 +1,6 @@
 // What a gate script says: the words of its lines and what each line asks for. Beside that the memory that a run is lent.
+#![tactic(auto)]
+
 mod memory;
 mod reading;
 mod script;

@@ -1,5 +1,7 @@
 // What a line of a gate script does, but for what the manager answers to an event: the steps of a run, each from what the run is to
 // what it is then.
+#![tactic(auto)]
+
 mod turns;
 
 ghost use Rattle.std.specs.Prelude.{◌≡◌, length};

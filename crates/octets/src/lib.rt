@@ -1,4 +1,6 @@
 // Octets: copying into a part of a slice, comparing, and big-endian numbers.
+#![tactic(auto)]
+
 ghost use Rattle.std.specs.Prelude.{◌≡◌, ◌+◌, ◌≤◌, ◌<◌, length};
 ghost use Rattle.octets.specs.Splice.{splice};
 ghost use Rattle.octets.specs.Number.{be, num};

@@ -1,4 +1,6 @@
 // Refusals in order (specs/Refusal): the code of one rule of a list. The lists themselves stand with the calls that have them.
+#![tactic(auto)]
+
 ghost use Rattle.std.specs.Prelude.{◌≡◌, cond};
 
 // A rule's number where it applies, else what the rules behind it say.

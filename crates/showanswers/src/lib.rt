@@ -1,4 +1,6 @@
 // A replay in words: what a line that `cdrgate` prints says, and its sentence.
+#![tactic(auto)]
+
 mod input;
 mod sentences;
 

@@ -1,4 +1,6 @@
 // The fields of a file in words, put on the page of a program.
+#![tactic(auto)]
+
 mod fields;
 mod words;
 

@@ -1,5 +1,7 @@
 // A route of the manager's state by value, and the rules that look at it alone: sizes, routing, losses, and the bounds of its file (refusal 18).
 // The state as a whole is lent words (crate words); the definitions see it as `Manager` (specs/Manager).
+#![tactic(auto)]
+
 mod bounds;
 mod clock;
 mod loss;

@@ -1,4 +1,6 @@
 // Programs that answer lines: lines taken from standard input, the words of a line, and a page for the lines that are printed.
+#![tactic(auto)]
+
 mod lines;
 mod page;
 mod parts;

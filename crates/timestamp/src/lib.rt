@@ -1,4 +1,6 @@
 // Timestamps: their seven fields in a 32-bit word, the local time of a minute, and the four octets that stand in a file.
+#![tactic(auto)]
+
 ghost use Rattle.std.specs.Prelude.{◌≡◌, ◌<◌, leb, cond};
 ghost use Rattle.timestamp.specs.Timestamp.{Narrow, narrow, right, word_of, fields_of};
 ghost use Rattle.timestamp.specs.LocalTime.{deviation, timestamp_of};

@@ -1,4 +1,6 @@
 // The manager's state as lent words (specs/Words has the layout): what they say, and the words that an event changes.
+#![tactic(auto)]
+
 mod reading;
 mod writing;
 
