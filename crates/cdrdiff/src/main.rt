@@ -8,32 +8,32 @@ mod words;
 
 // Both files are read before either is judged, so a file that cannot be read is reported before any refusal. A file that is too long fills
 // its buffer, one octet more than a file may have, and so the reader refuses it with 8.
-fn compare(path: &mut [u8], first: &mut [u8], second: &mut [u8]) {
-    let a = files::read_argument(1, path, first);
+fn compare(rt: &HostRuntime, path: &mut [u8], first: &mut [u8], second: &mut [u8]) {
+    let a = files::read_argument(rt, 1, path, first);
     if !a.works {
         return;
     }
-    let b = files::read_argument(2, path, second);
+    let b = files::read_argument(rt, 2, path, second);
     if !b.works {
         return;
     }
     let n = a.count;
     let m = b.count;
-    words::print(reconcile::reconcile(&first[..n], &second[..m]));
+    words::print(rt.stdout(), reconcile::reconcile(&first[..n], &second[..m]));
 }
 
-fn run() {
-    let mut path = memory::longest_argument();
+fn run(rt: &HostRuntime, path: &mut [u8]) {
     let mut first = memory::file_and_more();
     let mut second = memory::file_and_more();
-    compare(&mut path, &mut first, &mut second);
+    compare(rt, path, &mut first, &mut second);
 }
 
-fn main() {
-    // The count includes the program's own name.
-    if os::arg_count() == 3 {
-        run();
+fn main(rt: HostRuntime) {
+    let mut path = memory::longest_argument();
+    // Argument 0 is the program's own name.
+    if files::is_given(&rt, 2, &mut path) && !files::is_given(&rt, 3, &mut path) {
+        run(&rt, &mut path);
     } else {
-        words::report_usage();
+        words::report_usage(rt.stderr());
     }
 }

@@ -1,17 +1,20 @@
 // What the program prints: counts or a refusal on standard output, and on standard error why it could not compare.
-use libc::STDERR_FILENO;
 use reconcile::Reconciled;
 use showfields::put_file_refusal;
+use std::io::{Stderr, Stdout, Write};
 use textlines::{Printer, flush, put_all, put_end, put_number};
 
-pub fn report_usage() {
-    io::write_all(STDERR_FILENO, b"usage: cdrdiff FIRST SECOND\n");
+fn report(stderr: Stderr, text: &[u8]) -> bool {
+    let mut stderr = stderr;
+    stderr.write_all(text).is_ok()
 }
 
-pub fn report_unreadable(path: &[u8]) -> bool {
-    io::write_all(STDERR_FILENO, b"cdrdiff: cannot read ")
-        && io::write_all(STDERR_FILENO, path)
-        && io::write_all(STDERR_FILENO, b"\n")
+pub fn report_usage(stderr: Stderr) {
+    report(stderr, b"usage: cdrdiff FIRST SECOND\n");
+}
+
+pub fn report_unreadable(stderr: Stderr, path: &[u8]) -> bool {
+    report(stderr, b"cdrdiff: cannot read ") && report(stderr, path) && report(stderr, b"\n")
 }
 
 fn put_count(page: &mut [u8], p: Printer, label: &[u8], n: usize) -> Printer {
@@ -43,8 +46,9 @@ fn put_refusal(page: &mut [u8], p: Printer, r: Reconciled) -> Printer {
     put_end(page, d)
 }
 
-fn put_answer(page: &mut [u8], r: Reconciled) -> Printer {
+fn put_answer(stdout: Stdout, page: &mut [u8], r: Reconciled) -> Printer {
     let start = Printer {
+        stdout: stdout,
         fill: 0,
         works: true,
     };
@@ -56,8 +60,8 @@ fn put_answer(page: &mut [u8], r: Reconciled) -> Printer {
 }
 
 // All lines fit the page, so one write prints them.
-pub fn print(r: Reconciled) {
+pub fn print(stdout: Stdout, r: Reconciled) {
     let mut page = [0u8; 256];
-    let end = put_answer(&mut page, r);
+    let end = put_answer(stdout, &mut page, r);
     flush(&mut page, end);
 }
