@@ -1,5 +1,7 @@
 // The four events (document 01, The events): their definitions are in specs/, and this is what their code has in common: the answer, and
 // what an opening and a closing do to a route.
+#![tactic(auto)]
+
 mod answers;
 mod routes;
 mod sets;
