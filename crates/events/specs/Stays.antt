@@ -2,10 +2,10 @@
 -- once stays judged through a packet. Its settings stay what they are, its regions where they are, and the store keeps its length.
 use Rattle.std.specs.Prelude.{◌≡◌, ℕ, zero, suc, ◌+◌, ◌<◌, ◌≤◌, min, Bool, true, false, cond, not, ◌&&◌, ◌||◌, ltb, List, [], ◌∷◌, length, ◌==◌, ◌≢◌, nat_eq, nat_lt, slice_index_or}
 use Rattle.std.proofs.Math.Path.{refl}
-use Rattle.std.proofs.Common.{sym, ap, ◌∙◌, subst, true≢false, arith, length-set, get_or-set_same, get_or-set_other, ltb-false, le-leb, lt-ltb, eq-eqb, eqb-true}
+use Rattle.std.proofs.Common.{sym, ap, ◌∙◌, subst, arith, length-set, get_or-set_same, get_or-set_other, ltb-false, le-leb, lt-ltb, eq-eqb, eqb-true}
 use Rattle.std.proofs.lemmas.Bool.{false≢true, eqb-false, not-false}
 use Rattle.std.proofs.Math.Decide.{ℕ_discrete}
-use Rattle.octets.specs.Splice.{splice, splice_length}
+use Rattle.octets.specs.Splice.{splice_length}
 use Rattle.refusals.specs.Refusal.{Rule, ◌when◌, first, passed, or_false, or_right}
 use Rattle.record.specs.declared.Release.{Release}
 use Rattle.record.specs.declared.RecordHeader.{RecordHeader}
@@ -13,25 +13,22 @@ use Rattle.record.specs.Release.{narrow_release, rank, header_length}
 use Rattle.record.specs.Record.{record_octets}
 use Rattle.record.specs.HeaderOctets.{record_length}
 use Rattle.state.specs.declared.RouteSettings.{RouteSettings}
-use Rattle.state.specs.declared.OpenFile.{OpenFile}
 use Rattle.state.specs.declared.Route.{Route}
 use Rattle.state.specs.declared.Routed.{Routed}
 use Rattle.state.specs.Manager.{Manager}
 use Rattle.state.specs.Manager.{no_route, route_at, settings_at, base, regions, effective, with_route, with_time}
 use Rattle.state.specs.Size.{header_size, alone_size}
-use Rattle.state.specs.Loss.{lost}
 use Rattle.state.specs.Regions.{region_within, regions_all}
-use Rattle.state.specs.Bounds.{same_release, file_right, state_right}
+use Rattle.state.specs.Bounds.{same_release, state_right}
 use Rattle.state.specs.Within.{SettingsWithin, FileWithin, file_within, RouteWithin, Within, within, right_within}
 use Rattle.state.specs.Keep.{base_kept, within_kept, route_later, route_set, route_unset, settings_kept}
 use Rattle.state.specs.Routing.{nobody, route_of}
 use Rattle.state.specs.Longest.{longest_found}
-use Rattle.state.specs.Common.{common}
 use Rattle.events.specs.declared.Arrival.{Arrival}
 use Rattle.events.specs.Rules.{opened_route, closed_route, lost_route, noted_route, appended_route, high_with, low_with, differs, exceeds, full, wrong_fields, header_for, record_size, routed_to, compared_to}
 use Rattle.events.specs.Events.{After, settled}
-use Rattle.events.specs.Receive.{record_of, is_lost, turns, ready, holding, finished, store_with, needed, counters_full, receive_rules, noted, unrouted, lost_at, placed_at, taken, receive_of}
-use Rattle.events.specs.Right.{FileFacts, facts_of, Appends, opened_right, appended_right}
+use Rattle.events.specs.Receive.{record_of, is_lost, ready, holding, finished, store_with, needed, counters_full, receive_rules, noted, unrouted, lost_at, placed_at, taken, receive_of}
+use Rattle.events.specs.Right.{facts_of, opened_right, appended_right}
 
 -- A record that can be placed: its release and format are in range, and a file has room for it alone.
 record Placeable (s : RouteSettings) (h : RecordHeader) (n : ℕ) : Type 0 where

@@ -1,4 +1,4 @@
-use Rattle.std.proofs.Common.{ℕ, ◌-◌, ◌<◌, ◌≤◌, ltb, refl, ap, ◌∙◌, arith, rules}
+use Rattle.std.proofs.Common.{ℕ, ◌<◌, ◌≤◌, ltb, refl, ap, ◌∙◌, arith, rules}
 use Rattle.refusals.specs.Below.{any_turn, any_end}
 use Rattle.state.specs.SetTimes.{set_count}
 use Rattle.words.specs.Words.{manager_in}
