@@ -1,4 +1,6 @@
 // The manager's files: a record appended to its route's region of the store, and a file closed into the output.
+#![tactic(auto)]
+
 ghost use Rattle.std.specs.Prelude.{◌≡◌, ◌++◌, ◌+◌, ◌≤◌, length, take};
 ghost use Rattle.octets.specs.Splice.{splice};
 ghost use Rattle.record.specs.Record.{record_octets};

@@ -1,5 +1,7 @@
 // What every event tests first (document 01, Refusals): that the state is within its bounds, the store as long as all regions, and the time
 // in range.
+#![tactic(auto)]
+
 mod bounds;
 mod filters;
 mod ranges;

@@ -1,7 +1,7 @@
 -- How many octets of a filter and a key are the same from the first on (document 01, Routing and loss; document 02, ask 7), word by word:
 -- words that are the same are four octets that are, and in the first two words that are not there is a first octet that differs.
 -- Assumes nothing.
-use Rattle.std.specs.Prelude.{◌≡◌, Bool, cond, ◌&&◌, List, [], ◌∷◌, ℕ, zero, suc, ◌+◌, ◌-◌, ◌*◌, ◌/◌, ◌%◌, ◌≤◌, ◌<◌, ltb, leb, eqb, length, get_or}
+use Rattle.std.specs.Prelude.{◌≡◌, Bool, cond, ◌&&◌, List, [], ◌∷◌, ℕ, zero, suc, ◌+◌, ◌*◌, ◌/◌, ◌%◌, ◌≤◌, ◌<◌, ltb, leb, eqb, length, get_or}
 use Rattle.std.proofs.Math.Path.{refl, sym, ap}
 use Rattle.std.proofs.Common.{◌∙◌, arith}
 use Rattle.std.proofs.Math.Bool.{true, false}
@@ -13,7 +13,7 @@ use Rattle.octets.specs.Number.{Octets}
 use Rattle.state.specs.declared.RouteSettings.{RouteSettings}
 use Rattle.state.specs.Routing.{fits}
 use Rattle.state.specs.Compared.{up_to_differing, compared_with}
-use Rattle.words.specs.Words.{octet1, octet2, octet3, octet4, octets_in, filter_in, settings_in, four_at, five_words}
+use Rattle.words.specs.Words.{octet1, octet2, octet3, octet4, octets_in, settings_in, four_at, five_words}
 use Rattle.words.specs.Laws.{octet1_packed, octet2_packed, octet3_packed, octet4_packed}
 
 -- octet i of a word, and octet q of words

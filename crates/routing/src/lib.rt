@@ -1,6 +1,8 @@
 // Routing (document 01, Routing and loss; document 02, ask 7): a key goes to the route with the longest filter that is a prefix of it, and the
 // octets that are compared for that are counted. The key's octets are packed once, and filters are compared as words, up to the
 // first octet that differs: laid out as octets first, they would be waited for.
+#![tactic(auto)]
+
 ghost use Rattle.std.specs.Prelude.{◌≡◌, ◌+◌, ◌≤◌, length, get_or};
 ghost use Rattle.refusals.specs.Below.{leading};
 ghost use Rattle.state.specs.Routing.{Routable, fits, chosen, better, route_of};
