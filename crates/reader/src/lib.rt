@@ -1,4 +1,6 @@
 // The reader of CDR files: what a file holds, or the first refusal of 8 to 13 in order.
+#![tactic(auto)]
+
 ghost use Rattle.std.specs.Prelude.{◌≡◌, cond, eqb, ◌+◌, ◌≤◌, ◌<◌, length, get_or};
 ghost use Rattle.octets.specs.Number.{octets_at};
 ghost use Rattle.refusals.specs.Refusal.{first};

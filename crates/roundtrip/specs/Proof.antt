@@ -1,6 +1,6 @@
 -- Demand 2 (Demand2.antt) holds: soundness (Sound, Back), completeness (Complete), the writer's side (Write) and the refusals
 -- (Refused, Exactly) together.
-use Rattle.std.specs.Prelude.{◌≡◌, refl, true, ◌↔◌, List, [], ◌∷◌, ◌++◌, ℕ, ◌+◌, ◌≤◌, ◌<◌, ltb, take, replicate}
+use Rattle.std.specs.Prelude.{◌≡◌, refl, true, ◌↔◌, List, [], ◌∷◌, ◌++◌, ℕ, ◌≤◌, ◌<◌, ltb, take, replicate}
 use Rattle.std.proofs.Math.Path.{sym, ap}
 use Rattle.std.proofs.Common.{◌∙◌, subst, subst₂, zero-add, arith, ltb-true, lt-ltb, le-ltb}
 use Rattle.std.proofs.Math.ListN.{length, drop}

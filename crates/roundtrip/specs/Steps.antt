@@ -4,7 +4,7 @@ use Rattle.std.proofs.Common.{sym, ap, ◌∙◌, subst, arith, length-drop, dro
 use Rattle.std.proofs.Math.Decide.{ℕ_discrete}
 use Rattle.record.specs.declared.Stepped.{Stepped}
 use Rattle.record.specs.Record.{Record}
-use Rattle.record.specs.Step.{cut, record_of, record_length_at, step_of, step_whole, body_whole, inside}
+use Rattle.record.specs.Step.{cut, record_of, record_length_at, step_whole, body_whole, inside}
 use Rattle.record.specs.Walk.{Walked, records, broken, prepend, walk_in, walk_of, tallied, walk_end, walk_cut, walk_on}
 use Rattle.roundtrip.specs.Handed.{listed}
 use Rattle.roundtrip.specs.Stepping.{behind, stepped, stepped_to, NoneRefused}

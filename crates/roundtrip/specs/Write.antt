@@ -6,7 +6,7 @@ use Rattle.std.proofs.Common.{sym, ◌∙◌, arith, le-ltb}
 use Rattle.octets.specs.Number.{Octets}
 use Rattle.octets.specs.Splice.{splice}
 use Rattle.refusals.specs.Refusal.{both_false}
-use Rattle.timestamp.specs.Timestamp.{narrow, right, narrow_bounds, bounds_narrow, right_bounds, bounds_right, right_narrow}
+use Rattle.timestamp.specs.Timestamp.{narrow, narrow_bounds, bounds_narrow, right_bounds, bounds_right, right_narrow}
 use Rattle.record.specs.declared.Tallied.{Tallied}
 use Rattle.record.specs.Release.{narrow_release}
 use Rattle.record.specs.Record.{Record, records_octets}

@@ -1,4 +1,6 @@
 // The writer of CDR files: a file over the start of an output, or the first refusal of 2, 10, 11, 13, 8, 17 in this order.
+#![tactic(auto)]
+
 ghost use Rattle.std.specs.Prelude.{◌≡◌};
 ghost use Rattle.cdrfile.specs.Statement.{agrees};
 ghost use Rattle.writer.specs.Writer.{wrong_fields, wrong_value, after, write_of};

@@ -1,6 +1,6 @@
 -- `reader::part_of` meets its contract: both tests are the definition's, and a part within the file is taken. Assumes nothing.
 use mathlib.Core.Path.{◌∙◌, sym, ap}
-use Prim.Native.Nat.{ℕ, ◌-◌}
+use Prim.Native.Nat.{ℕ}
 use native.Mathlib.Nat.{add-sub_cancel_left}
 use lib.ListN.{take, drop}
 use Rattle.reader.specs.Parts.{part_past, part_over, part_within}

@@ -15,7 +15,9 @@ pub overflow_add-private : goal.overflow_add-private
 overflow_add-private c = omega (arith, (facts (goal.at.overflow_add-private c).Start).within, (facts (goal.at.overflow_add-private c).Start).ends)
 
 pub header_of-header-requires : goal.header_of-header-requires
-header_of-header-requires c = ((facts (goal.at.header_of-header-requires c).Start).long, omega (arith, (facts (goal.at.header_of-header-requires c).Start).within, (facts (goal.at.header_of-header-requires c).Start).ends))
+header_of-header-requires c =
+    let r = facts (goal.at.header_of-header-requires c).Start in
+    record { in_bounds = r.long; file_in_bounds = omega (arith, r.within, r.ends) }
 
 pub returns-then-wrong_value : goal.returns-then-wrong_value
 returns-then-wrong_value c =

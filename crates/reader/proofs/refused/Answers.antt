@@ -3,4 +3,4 @@ use Rattle.reader.specs.Reader.{nowhere}
 use Rattle.reader.proofs.refused.Goals as goal
 
 pub returns : goal.returns
-returns c = λ i. record { refusal = c.args.number; header = c.no_Header.ensures i; filter = nowhere; private = nowhere; records = nowhere; count = 0 }
+returns c = λ i. record { refusal = c.args.number; header = c.no_header-header.ensures i; filter = nowhere; private = nowhere; records = nowhere; count = 0 }

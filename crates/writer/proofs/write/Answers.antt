@@ -12,43 +12,37 @@ use Rattle.writer.specs.declared.Written.{Written}
 use Rattle.writer.specs.Writer.{after, wrong_fields, wrong_value, needed_octets}
 use Rattle.writer.specs.Cases.{answered, Passed, write_unfit, write_wrong, write_cut, write_disordered, write_long, write_needing, write_done, written_made, short, header_most, layable}
 use Rattle.writer.proofs.write.Goals as goal
-use Rattle.writer.proofs.write.Goals.{After-header_length, Else-disordered, Else-unfit, Else-wrong, Start}
-
-abbrev from10 : goal.Else-wrong → goal.Start
-from10 c = from2 c.Else-unfit
-
-abbrev from : goal.After-header_length → goal.Start
-from c = from10 c.Else-wrong
+use Rattle.writer.proofs.write.Goals.{After-header_length, Else-disordered, Else-unfit, Else-wrong}
 
 passed2 : (c : goal.Else-unfit) → wrong_fields c.args.h c.args.private.now ≡ false
 passed2 c = sym c.wrong_fields-unfit.ensures ∙ c.if-unfit.false
 
-passed10 : (c : goal.Else-wrong) → wrong_value (from10 c).args.h (from10 c).args.filter.now (from10 c).args.private.now ≡ false
+passed10 : (c : goal.Else-wrong) → wrong_value c.args.h c.args.filter.now c.args.private.now ≡ false
 passed10 c = sym c.wrong_value-wrong.ensures ∙ c.if-wrong.false
 
 -- what the walk, the test of the order and the sum of the lengths give is what the definition asks
-refusal : (c : goal.After-header_length) → (tally_of (from c).args.records.now).refusal ≡ c.tally-found.result.refusal
+refusal : (c : goal.After-header_length) → (tally_of c.args.records.now).refusal ≡ c.tally-found.result.refusal
 refusal c = ap (λ (t : Tallied). t.refusal) (sym c.tally-found.ensures)
 
-count : (c : goal.After-header_length) → c.tally-found.result.count ≡ (tally_of (from c).args.records.now).count
+count : (c : goal.After-header_length) → c.tally-found.result.count ≡ (tally_of c.args.records.now).count
 count c = ap (λ (t : Tallied). t.count) c.tally-found.ensures
 
 order : (c : goal.After-header_length)
-    → wrong_order (from c).args.h.high (from c).args.h.low (tally_of (from c).args.records.now) ≡ c.wrong_order-disordered.result
-order c = ap (wrong_order (from c).args.h.high (from c).args.h.low) (sym c.tally-found.ensures) ∙ sym c.wrong_order-disordered.ensures
+    → wrong_order c.args.h.high c.args.h.low (tally_of c.args.records.now) ≡ c.wrong_order-disordered.result
+order c = ap (wrong_order c.args.h.high c.args.h.low) (sym c.tally-found.ensures) ∙ sym c.wrong_order-disordered.ensures
 
 needed : (c : goal.After-header_length)
-    → c.header_length.result + length (from c).args.records.now ≡ needed_octets (from c).args.h (from c).args.filter.now (from c).args.private.now (from c).args.records.now
-needed c = ap (λ (n : ℕ). n + length (from c).args.records.now) c.header_length.ensures
+    → c.header_length.result + length c.args.records.now ≡ needed_octets c.args.h c.args.filter.now c.args.private.now c.args.records.now
+needed c = ap (λ (n : ℕ). n + length c.args.records.now) c.header_length.ensures
 
 passed : (c : goal.Else-disordered)
-    → Passed (from c.After-header_length).args.h (from c.After-header_length).args.filter.now (from c.After-header_length).args.private.now (from c.After-header_length).args.records.now
+    → Passed c.args.h c.args.filter.now c.args.private.now c.args.records.now
 passed c =
     record {
-      fields = passed2 c.Else-unfit;
-      right = passed10 c.Else-wrong;
-      whole = refusal c.After-header_length ∙ c.if-found-ne0.false;
-      ordered = order c.After-header_length ∙ c.if-disordered.false;
+      fields = sym c.wrong_fields-unfit.ensures ∙ c.if-unfit.false;
+      right = sym c.wrong_value-wrong.ensures ∙ c.if-wrong.false;
+      whole = ap (λ (t : Tallied). t.refusal) (sym c.tally-found.ensures) ∙ c.if-found-ne0.false;
+      ordered = ap (wrong_order c.args.h.high c.args.h.low) (sym c.tally-found.ensures) ∙ sym c.wrong_order-disordered.ensures ∙ c.if-disordered.false;
     }
 
 pub returns-then-unfit : goal.returns-then-unfit
@@ -66,39 +60,39 @@ returns-then-wrong c =
 
 pub header_length-requires : goal.header_length-requires
 header_length-requires c =
-    let a = (from10 (goal.at.header_length-requires c).Else-wrong).args in
+    let a = c.args in
     let s = short a.h a.filter.now a.private.now (passed10 (goal.at.header_length-requires c).Else-wrong) in
     (omega (arith, s.0), omega (arith, s.1))
 
 pub overflow_add-octets : goal.overflow_add-octets
 overflow_add-octets c =
-    let a = (from c).args in
-    omega (arith, (from c).well-formed, c.header_length.ensures, header_most a.h a.filter.now a.private.now (passed10 (goal.at.overflow_add-octets c).Else-wrong))
+    let a = c.args in
+    omega (arith, c.header_length.ensures, header_most a.h a.filter.now a.private.now (passed10 (goal.at.overflow_add-octets c).Else-wrong))
 
 pub returns-then-found-ne0 : goal.returns-then-found-ne0
 returns-then-found-ne0 c =
-    let a = (from (goal.at.returns-then-found-ne0 c).After-header_length).args in
+    let a = c.args in
     ap (λ (r : Written). after r a.output.now) c.answer-then-found-ne0.ensures
     ∙ write_cut a.h a.filter.now a.private.now a.records.now a.output.now (passed2 (goal.at.returns-then-found-ne0 c).Else-unfit) (passed10 (goal.at.returns-then-found-ne0 c).Else-wrong)
     (λ z. c.if-found-ne0.true (sym (refusal (goal.at.returns-then-found-ne0 c).After-header_length) ∙ z))
 
 pub returns-then-disordered : goal.returns-then-disordered
 returns-then-disordered c =
-    let a = (from (goal.at.returns-then-disordered c).After-header_length).args in
+    let a = c.args in
     ap (λ (r : Written). after r a.output.now) c.answer-then-disordered.ensures
     ∙ write_disordered a.h a.filter.now a.private.now a.records.now a.output.now (passed2 (goal.at.returns-then-disordered c).Else-unfit) (passed10 (goal.at.returns-then-disordered c).Else-wrong)
     (refusal (goal.at.returns-then-disordered c).After-header_length ∙ c.if-found-ne0.false) (order (goal.at.returns-then-disordered c).After-header_length ∙ c.if-disordered.true)
 
 pub returns-then-octets-gt1048576 : goal.returns-then-octets-gt1048576
 returns-then-octets-gt1048576 c =
-    let a = (from (goal.at.returns-then-octets-gt1048576 c).After-header_length).args in
+    let a = c.args in
     let n = needed (goal.at.returns-then-octets-gt1048576 c).After-header_length in
     ap (λ (r : Written). after r a.output.now) c.answer-then-octets-gt1048576.ensures
     ∙ write_long a.h a.filter.now a.private.now a.records.now a.output.now (passed (goal.at.returns-then-octets-gt1048576 c).Else-disordered) (omega (arith, c.if-octets-gt1048576.true))
 
 pub returns-then-output-octets : goal.returns-then-output-octets
 returns-then-output-octets c =
-    let a = (from (goal.at.returns-then-output-octets c).After-header_length).args in
+    let a = c.args in
     let n = needed (goal.at.returns-then-output-octets c).After-header_length in
     ap (λ (r : Written). after r a.output.now) c.answer-then-output-octets.ensures
     ∙ (λ i. after (answered 17 (n i)) a.output.now)
@@ -107,14 +101,14 @@ returns-then-output-octets c =
 
 pub lay_out-requires : goal.lay_out-requires
 lay_out-requires c =
-    let a = (from (goal.at.lay_out-requires c).After-header_length).args in
+    let a = c.args in
     let n = needed (goal.at.lay_out-requires c).After-header_length in
     layable a.h a.filter.now a.private.now a.records.now a.output.now (passed (goal.at.lay_out-requires c).Else-disordered).fields
     (omega (arith, c.if-octets-gt1048576.false)) (omega (arith, c.if-output-octets.false)) (count (goal.at.lay_out-requires c).After-header_length)
 
 pub returns : goal.returns
 returns c =
-    let a = (from (goal.at.returns c).After-header_length).args in
+    let a = c.args in
     let n = needed (goal.at.returns c).After-header_length in
     written_made a.h a.filter.now a.private.now a.records.now a.output.now c.answer-2.ensures n c.lay_out.ensures (count (goal.at.returns c).After-header_length)
     ∙ write_done a.h a.filter.now a.private.now a.records.now a.output.now (passed (goal.at.returns c).Else-disordered)
