@@ -1,4 +1,4 @@
--- DEMAND 3 of document 01, stated alone: read this file without its proof (Proof.antt).
+-- DEMAND 3 of document 01, stated alone: read this file without its proof (proofs/Demand3Holds.antt).
 --
 -- Take any settings octets that are accepted, with set times of day (document 02, ask 6) or without, a store of any length and content, and
 -- any list that mixes OPEN, CLOSE, TICK and RECEIVE with packets of records (ask 8), refused ones included and packets that stop half way,
@@ -26,7 +26,7 @@
 --
 -- `loaded_of`, `open_on`, `close_on`, `tick_on`, `receive_on` and `packet_on`, of which `done_by` and `run_of` are made, are the definitions that
 -- the contracts of the calls cite; `manager_in` says what words stand for. Two facts about closings stand beside this: a RECEIVE closes at most
--- one file (`receive_one`, events, Closes.antt), and no empty file closes with 5 or 1 (`empty_files`, EmptyFiles.antt).
+-- one file (`receive_one`, events, Closes.antt), and no empty file closes with 5 or 1 (`empty_files`, proofs/EmptyFiles.antt).
 use Rattle.std.specs.Prelude.{◌≡◌, ◌↔◌, Bool, true, false, cond, not, ◌&&◌, List, [], ◌∷◌, ◌++◌, ℕ, ◌+◌, ◌≤◌, ◌<◌, eqb, length, take, drop}
 use Rattle.octets.specs.Number.{Octets}
 use Rattle.octets.specs.Splice.{splice}

@@ -1,4 +1,4 @@
--- DEMAND 2 of document 01, stated alone: read this file without its proof (Proof.antt).
+-- DEMAND 2 of document 01, stated alone: read this file without its proof (proofs/Demand2Holds.antt).
 --
 -- In plain words, a line for each clause of the record `Demand2`, in its order. The reader:
 -- `described`: it accepts octets x exactly when document 01 describes them: right fields and right records, laid out.
