@@ -1,4 +1,6 @@
 // Packets of records (document 02, ask 8): how many records a packet has, and what one says.
+#![tactic(auto)]
+
 ghost use Rattle.std.specs.Prelude.{◌≡◌, ◌+◌, ◌≤◌, ◌<◌, length, drop};
 ghost use Rattle.packets.specs.Packet.{size_of, arrival_of};
 ghost use Rattle.packets.specs.Walk.{count_of};

@@ -1,4 +1,6 @@
 // Settings octets to a fresh manager, or refusal 1, 2, 3 or 22.
+#![tactic(auto)]
+
 mod sets;
 
 ghost use Rattle.std.specs.Prelude.{◌≡◌, [], ◌+◌, ◌*◌, ◌≤◌, length};

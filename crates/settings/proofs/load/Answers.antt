@@ -86,16 +86,15 @@ overflow_sub-k c =
     ends c.args.octets.now c.routes_in-n.result c.routes_in-n.ensures.0 (shape_right (goal.at.overflow_sub-k c).Else-wrong_shape)
 
 pub put_sets-requires : goal.put_sets-requires
-put_sets-requires c =
-    (
-      record {
-        routes = c.routes_in-n.ensures.0;
-        few = c.routes_in-n.ensures.1;
-        whole = (shaped c.args.octets.now (shape_right (goal.at.put_sets-requires c).Else-wrong_shape)).whole;
-        is = c.words_from-words.ensures;
-      },
-      sets_are c.args.octets.now c.routes_in-n.result c.routes_in-n.ensures.0,
-    )
+put_sets-requires c = (
+  record {
+    routes = c.routes_in-n.ensures.0;
+    few = c.routes_in-n.ensures.1;
+    whole = (shaped c.args.octets.now (shape_right (goal.at.put_sets-requires c).Else-wrong_shape)).whole;
+    is = c.words_from-words.ensures;
+  },
+  sets_are c.args.octets.now c.routes_in-n.result c.routes_in-n.ensures.0,
+)
 
 pub returns-then-not-put_sets : goal.returns-then-not-put_sets
 unfolding wrong_sets
