@@ -86,6 +86,7 @@ fn are_sums_distinct(words: &[u32], n: usize) -> bool
 
 // Whether no two of the routes below n have equal filters. One has none to be equal to. As a rule a number of each tells: only where two
 // are equal are the filters compared.
+#[tactic(auto, using(crate::specs::Sums::one_distinct))]
 pub fn are_distinct(words: &[u32], n: usize) -> bool
     requires { (length words.now ≡ 360) × (n ≤ 8) }
     ensures { result ≡ distinct (manager_in words.now) n }

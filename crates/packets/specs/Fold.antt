@@ -1,7 +1,7 @@
 -- A packet taken (document 02, ask 8): one RECEIVE after another on the words, the store and the output, each lent what its predecessors left of
 -- the output, up to the first that is refused; what was accepted before it stands. 11 for the whole packet comes first; a packet without
 -- records tests 18, then 16, and changes nothing. Assumes nothing.
-use Rattle.std.specs.Prelude.{Bool, cond, not, ◌||◌, List, [], ◌∷◌, ◌++◌, ℕ, zero, suc, ltb, eqb, length, take, drop}
+use Rattle.std.specs.Prelude.{cond, not, ◌||◌, List, [], ◌∷◌, ◌++◌, ℕ, zero, suc, ltb, eqb, length, take, drop}
 use Rattle.refusals.specs.Refusal.{◌when◌, first}
 use Rattle.state.specs.Manager.{regions}
 use Rattle.state.specs.Bounds.{state_right}

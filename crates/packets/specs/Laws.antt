@@ -1,12 +1,10 @@
 -- Packets and lists of records (document 02, ask 8): a packet that is not refused is the octets of its records, and records whose fields have
 -- room in a packet are read back from theirs; so no two lists of records share a packet. Assumes nothing.
-use Rattle.std.specs.Prelude.{◌≡◌, refl, Bool, true, false, cond, not, ◌&&◌, ◌||◌, List, [], ◌∷◌, ◌++◌, ℕ, zero, suc, ◌+◌, ◌%◌, ◌^◌, ◌≤◌, ◌<◌, leb, eqb, length, get_or, take, drop}
+use Rattle.std.specs.Prelude.{◌≡◌, refl, Bool, true, false, cond, ◌&&◌, ◌||◌, List, [], ◌∷◌, ◌++◌, ℕ, zero, suc, ◌+◌, ◌^◌, ◌≤◌, ◌<◌, leb, eqb, length, get_or, take, drop}
 use Rattle.std.proofs.Common.{sym, ap, ◌∙◌, append_assoc, arith, mod-eq_of_lt, length-append, length-drop, take-append-drop, take_at, drop_at, drop-drop, length-take-le, le-leb, ne_eqb, leb-true, eqb-true}
-use Rattle.std.proofs.lemmas.Bool.{false≢true}
 use Rattle.refusals.specs.Tests.{both}
 use Rattle.octets.specs.Number.{be, num, num_be, be_num, octets_at, octets_at_lem, Octets, octets_drop}
-use Rattle.events.specs.declared.Arrival.{Arrival}
-use Rattle.packets.specs.Packet.{Delivered, key_length, body_length, size_of, arrival_of, first_of, whole, records_in, record_octets, packet_octets}
+use Rattle.packets.specs.Packet.{Delivered, key_length, body_length, size_of, first_of, whole, records_in, record_octets, packet_octets}
 
 -- the fields have room in a packet
 pub record Roomy (d : Delivered) : Type 0 where

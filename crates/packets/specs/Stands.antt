@@ -1,12 +1,12 @@
 -- What stands of a packet (document 02, ask 8; demand 1): of one that stops at a refused record just what the records before it leave by themselves;
 -- so one of which none is accepted leaves words, store and output as they were, of any words, and so does one that is refused whole.
 -- Assumes nothing.
-use Rattle.std.specs.Prelude.{◌≡◌, refl, Bool, true, false, cond, List, [], ◌∷◌, ◌++◌, ℕ, zero, suc, length, take, drop}
+use Rattle.std.specs.Prelude.{◌≡◌, refl, Bool, true, false, cond, List, [], ◌∷◌, ◌++◌, ℕ, zero, suc, take, drop}
 use Rattle.std.proofs.Common.{sym, ap, ◌∙◌, subst, arith}
 use Rattle.events.specs.Lent.{Left}
 use Rattle.events.specs.Unchanged.{receive_unchanged}
 use Rattle.packets.specs.Packet.{Delivered, wrong_packet, delivered}
-use Rattle.packets.specs.Fold.{Taken, untried, before, received, take_all, empty_refusal, listed_on, packet_on}
+use Rattle.packets.specs.Fold.{Taken, untried, before, received, take_all, listed_on, packet_on}
 
 -- the same is left
 pub record Same (t u : Taken) : Type 0 where

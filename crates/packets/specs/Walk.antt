@@ -1,10 +1,10 @@
 -- A packet gone through from record to record (document 02, ask 8): what is known at its n-th, which starts at `at`, and how it ends.
 -- Assumes nothing.
 use Rattle.std.specs.Prelude.{◌≡◌, refl, Bool, true, false, cond, not, ◌&&◌, ◌||◌, List, [], ◌∷◌, ℕ, zero, suc, ◌+◌, ◌-◌, ◌*◌, ◌^◌, ◌≤◌, ◌<◌, leb, eqb, length, get_or, take, drop}
-use Rattle.std.proofs.Common.{sym, ap, ◌∙◌, arith, zero-add, length-drop, drop_of_length-le, drop-drop, get_or-drop, le-leb, eq-eqb, ne_eqb}
+use Rattle.std.proofs.Common.{sym, ap, ◌∙◌, arith, zero-add, length-drop, drop_of_length-le, drop-drop, get_or-drop, le-leb, ne_eqb}
 use Rattle.std.proofs.lemmas.Bool.{lt-leb}
 use Rattle.octets.specs.Number.{num}
-use Rattle.packets.specs.Packet.{Delivered, arrival_of, size_of, first_of, whole, records_in, wrong_packet, delivered}
+use Rattle.packets.specs.Packet.{arrival_of, size_of, first_of, whole, records_in, wrong_packet, delivered}
 
 -- what the call answers
 abbrev pub count_of : List ℕ → ℕ

@@ -2,7 +2,7 @@
 -- does (events, Work: `ComparedRight`), by the words that the packet was lent, whatever the records before it did: a refused record has 0, one
 -- with mark 2 has 0, every other has the count of its key, and none has more than the number of routes times the key's length.
 -- The answers belong to the first records of the packet, in order, one to each that was tried.
-use Rattle.std.specs.Prelude.{◌≡◌, refl, Bool, true, false, cond, List, [], ◌∷◌, ℕ, zero, suc, ◌*◌, ◌≤◌, length, drop}
+use Rattle.std.specs.Prelude.{refl, Bool, true, false, cond, List, [], ◌∷◌, ℕ, zero, suc, ◌*◌, ◌≤◌, length, drop}
 use Rattle.std.proofs.Common.{◌∙◌, subst}
 use Rattle.state.specs.Manager.{Manager}
 use Rattle.words.specs.Words.{manager_in}

@@ -89,6 +89,7 @@ fn same_before(w: u32, k: u32, from: u32, n: u32) -> u32
 
 // How many of the first n octets of five words are those of five others, from the first on: word by word, up to the first that
 // differs, or the one in which the last of them stands.
+#[tactic(auto, using(crate::proofs::Ends::end4, crate::proofs::Ends::end8, crate::proofs::Ends::end12, crate::proofs::Ends::end16))]
 fn same_first(part: &[u32], five: &[u32; 5], n: u32) -> u32
     requires { (19 ≤ length part.now) × (n ≤ 20) }
     ensures { result ≡ leading (same_in part.now five.now) n }

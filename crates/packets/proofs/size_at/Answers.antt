@@ -1,10 +1,9 @@
 -- `packets::size_at` meets its contract: the lengths stand in their places. Assumes nothing.
-use mathlib.Core.Path.{◌≡◌, refl}
-use mathlib.Core.List.{List}
-use Prim.Native.Nat.{ℕ, ◌+◌, ◌<◌}
+use mathlib.Core.Path.{refl}
+use Prim.Native.Nat.{◌+◌, ◌<◌}
 use native.Mathlib.Omega.{arith}
 use lib.ListN.{get_or}
-use Rattle.octets.specs.Number.{Octets, num, num_lt}
+use Rattle.octets.specs.Number.{Octets, num_lt}
 use Rattle.packets.specs.Walk.{size_at}
 use Rattle.packets.proofs.size_at.Goals as goal
 use Rattle.packets.proofs.size_at.Goals.{After-num32-body}

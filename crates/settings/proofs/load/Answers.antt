@@ -15,7 +15,6 @@ use Rattle.refusals.specs.Below.{all_below}
 use Rattle.settings.specs.Settings.{wrong_shape, beyond_range, routes_in, sets_in, route_start, set_time_right, wrong_sets, manager_with, manager_from, worded}
 use Rattle.settings.specs.Cases.{shaped, fresh_shape, fresh_range, fresh_equal, fresh_unset, fresh_taken}
 use Rattle.settings.specs.Held.{out_of_range, words_range, words_distinct}
-use borrow.Author.Rules.{rules}
 use Rattle.settings.proofs.load.Goals as goal
 use Rattle.settings.proofs.load.Goals.{Else-wrong_shape}
 
@@ -56,9 +55,6 @@ pub words_from-words-requires : goal.words_from-words-requires
 words_from-words-requires c =
     (c.routes_in-n.ensures.1, ends c.args.octets.now c.routes_in-n.result c.routes_in-n.ensures.0 (shape_right (goal.at.words_from-words-requires c).Else-wrong_shape))
 
-pub beyond_range-requires : goal.beyond_range-requires
-beyond_range-requires c = (search rules, c.routes_in-n.ensures.1)
-
 pub returns-then-beyond_range : goal.returns-then-beyond_range
 returns-then-beyond_range c =
     let s = (goal.at.returns-then-beyond_range c).Else-wrong_shape in
@@ -66,9 +62,6 @@ returns-then-beyond_range c =
     let range = range_is xs c.routes_in-n.result c.routes_in-n.ensures.0 (shape_right s) (low s) c.words_from-words.result c.words_from-words.ensures in
     c.refused-then-beyond_range.ensures
     ∙ ap worded (sym (fresh_range xs (shape_right s) (sym range ∙ sym c.beyond_range.ensures ∙ c.if-beyond_range.true)))
-
-pub are_distinct-requires : goal.are_distinct-requires
-are_distinct-requires c = (search rules, c.routes_in-n.ensures.1)
 
 pub returns-then-not-are_distinct : goal.returns-then-not-are_distinct
 returns-then-not-are_distinct c =

@@ -4,11 +4,8 @@ use native.Mathlib.Omega.{arith}
 use Rattle.refusals.specs.Below.{below_turn, below_end}
 use Rattle.state.specs.Bounds.{new_at}
 use Rattle.words.specs.Words.{manager_in}
-use Rattle.judging.specs.Sums.{sums_distinct, one_distinct}
+use Rattle.judging.specs.Sums.{sums_distinct}
 use Rattle.judging.proofs.filters.are_distinct.Goals as goal
-
-pub returns-then-n-lt2 : goal.returns-then-n-lt2
-returns-then-n-lt2 c = let a = c.args in sym (one_distinct a.words.now a.n (omega arith))
 
 pub returns-then-are_sums_distinct : goal.returns-then-are_sums_distinct
 returns-then-are_sums_distinct c =
