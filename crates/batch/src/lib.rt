@@ -1,4 +1,6 @@
 // A packet of records taken in one call (document 02, ask 8): the state is judged once, and then its records are taken one behind another.
+#![tactic(auto)]
+
 ghost use Rattle.std.specs.Prelude.{◌≡◌, false, [], ◌+◌, ◌≤◌, length, drop};
 ghost use Rattle.refusals.specs.Refusal.{first};
 ghost use Rattle.state.specs.Common.{judged};

@@ -1,4 +1,6 @@
 // OPEN, CLOSE and TICK on any words, store and output (document 01, The events).
+#![tactic(auto)]
+
 mod checks;
 mod closing;
 mod opening;

@@ -1,4 +1,6 @@
 // Placing a record in its route's file (document 01, The events): planned first, then written.
+#![tactic(auto)]
+
 mod carrying;
 mod file;
 mod joining;

@@ -1,4 +1,6 @@
 // RECEIVE on any state, store and output (document 01, Routing and loss, The events): a record is unrouted, lost or placed.
+#![tactic(auto)]
+
 mod pass;
 
 ghost use Rattle.std.specs.Prelude.{◌≡◌, [], length};

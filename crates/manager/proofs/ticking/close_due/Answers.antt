@@ -1,7 +1,7 @@
 use mathlib.Core.Path.{◌≡◌, sym, ap, ◌∙◌}
 use mathlib.Core.Bool.{true, cond}
 use mathlib.Core.List.{List}
-use Prim.Native.Nat.{ℕ, ◌+◌, ◌-◌, ◌≤◌, ◌<◌}
+use Prim.Native.Nat.{ℕ, ◌+◌, ◌≤◌, ◌<◌}
 use native.Mathlib.Omega.{arith}
 use Rattle.octets.specs.Splice.{splice}
 use Rattle.state.specs.declared.Route.{Route}
@@ -106,22 +106,22 @@ loop-i-preserved c =
     let more = c.loop-i-test.true in
     let limit = ap (λ (r : Route). r.settings.limit) (route_is (goal.at.loop-i-preserved c).After-route_at-r) in
     elim c.if-is_ending.branch [
-      then-is_ending w ↦
-        let ends_now = sym (told (goal.at.loop-i-preserved c).After-is_ending) ∙ w.if-is_ending.true in
-        let able = closable (goal.at.loop-i-preserved c).After-route_at-r ends_now in
-        let reason : w.end_reason-reason.result ≡ end_reason (state a.words.now) a.t l.i = w.end_reason-reason.ensures ∙ ap (λ (r : Route). cond (due a.t r) 2 0) (route_is (goal.at.loop-i-preserved c).After-route_at-r) in
-        rw (w.words-is, w.output-is, w.at-is, w.files-is) (
-          l.invariant.0,
-          turn_due _ _ _ _ _ v more ends_now (few (goal.at.loop-i-preserved c).After-route_at-r) limit (ap (λ (n : ℕ). l.at + n) (w.closed_size-size.ensures ∙ ap closed_size (route_is (goal.at.loop-i-preserved c).After-route_at-r)))
-              (w.close_file.ensures
-              ∙ ap (splice l.output l.at)
-              (closed_as (state a.words.now) a.store.now l.i w.end_reason-reason.result l.invariant.0 (route_is (goal.at.loop-i-preserved c).After-route_at-r) v.from ∙ ap (closed_file (state a.words.now) a.store.now l.i) reason))
-              (closed_length (state a.words.now) a.store.now l.i (end_reason (state a.words.now) a.t l.i) able.records able.filter (twenty a.words.now l.i (below (goal.at.loop-i-preserved c).After-route_at-r)))
-              w.close_file.auto.output
-              (w.closed_route-closed.ensures ∙ ap closed_route (route_is (goal.at.loop-i-preserved c).After-route_at-r)) w.put_route.ensures,
-        )
+      | then-is_ending w ↦
+          let ends_now = sym (told (goal.at.loop-i-preserved c).After-is_ending) ∙ w.if-is_ending.true in
+          let able = closable (goal.at.loop-i-preserved c).After-route_at-r ends_now in
+          let reason : w.end_reason-reason.result ≡ end_reason (state a.words.now) a.t l.i = w.end_reason-reason.ensures ∙ ap (λ (r : Route). cond (due a.t r) 2 0) (route_is (goal.at.loop-i-preserved c).After-route_at-r) in
+          rw (w.words-is, w.output-is, w.at-is, w.files-is) (
+            l.invariant.0,
+            turn_due _ _ _ _ _ v more ends_now (few (goal.at.loop-i-preserved c).After-route_at-r) limit (ap (λ (n : ℕ). l.at + n) (w.closed_size-size.ensures ∙ ap closed_size (route_is (goal.at.loop-i-preserved c).After-route_at-r)))
+                (w.close_file.ensures
+                ∙ ap (splice l.output l.at)
+                (closed_as (state a.words.now) a.store.now l.i w.end_reason-reason.result l.invariant.0 (route_is (goal.at.loop-i-preserved c).After-route_at-r) v.from ∙ ap (closed_file (state a.words.now) a.store.now l.i) reason))
+                (closed_length (state a.words.now) a.store.now l.i (end_reason (state a.words.now) a.t l.i) able.records able.filter (twenty a.words.now l.i (below (goal.at.loop-i-preserved c).After-route_at-r)))
+                w.close_file.auto.output
+                (w.closed_route-closed.ensures ∙ ap closed_route (route_is (goal.at.loop-i-preserved c).After-route_at-r)) w.put_route.ensures,
+          )
       | else-is_ending w ↦
-        rw (w.words-is, w.output-is, w.at-is, w.files-is) (l.invariant.0, turn_not _ _ _ _ _ v more limit (sym (told (goal.at.loop-i-preserved c).After-is_ending) ∙ w.if-is_ending.false))
+          rw (w.words-is, w.output-is, w.at-is, w.files-is) (l.invariant.0, turn_not _ _ _ _ _ v more limit (sym (told (goal.at.loop-i-preserved c).After-is_ending) ∙ w.if-is_ending.false))
     ]
 
 pub returns : goal.returns
