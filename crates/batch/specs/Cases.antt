@@ -1,6 +1,6 @@
 -- The cases of a packet that the call meets (document 02, ask 8): 11; 18 or 16, which its first record gets too, if it has one; or its records
 -- are taken. Assumes nothing.
-use Rattle.std.specs.Prelude.{◌≡◌, refl, Bool, true, false, ◌||◌, ℕ, zero, suc, ◌≤◌, eqb, length, drop}
+use Rattle.std.specs.Prelude.{◌≡◌, refl, Bool, true, false, ◌||◌, ℕ, zero, suc, length, drop}
 use Rattle.std.proofs.Math.Path.{sym, ap}
 use Rattle.std.proofs.Common.{◌∙◌, arith}
 use Rattle.std.proofs.Math.Bool.{cond, not}
@@ -8,16 +8,13 @@ use mathlib.Core.List.{List, [], ◌∷◌}
 use Rattle.std.proofs.Math.Dec.{ltb}
 use borrow.Author.Tests.{eq-eqb, ne_eqb, lt-ltb}
 use Rattle.refusals.specs.Refusal.{◌when◌, first}
-use Rattle.state.specs.Manager.{Manager}
-use Rattle.state.specs.Manager.{regions, effective}
+use Rattle.state.specs.Manager.{regions}
 use Rattle.state.specs.Bounds.{state_right}
 use Rattle.state.specs.Common.{judged, judged_common}
 use Rattle.words.specs.Words.{manager_in}
 use Rattle.words.specs.Laws.{words_words}
-use Rattle.events.specs.declared.Answer.{Answer}
-use Rattle.events.specs.Rules.{wrong_fields}
-use Rattle.events.specs.Events.{refusal_of, After, after, refused, settled}
-use Rattle.events.specs.Receive.{counters_full, needed, taken, receive_of}
+use Rattle.events.specs.Events.{refusal_of}
+use Rattle.events.specs.Receive.{receive_of}
 use Rattle.events.specs.Lent.{Left, left, worded, unlike, receive_on}
 use Rattle.receiving.specs.Cases.{receive_common}
 use Rattle.packets.specs.Packet.{Delivered, wrong_packet, delivered}

@@ -1,9 +1,9 @@
 -- A packet's records taken one behind another (document 02, ask 8): what a record leaves is judged still, so that the next can be taken; and
 -- what is known before each record of what is answered and left in all. Assumes nothing.
-use Rattle.std.specs.Prelude.{◌≡◌, refl, Bool, true, false, not, ◌&&◌, ◌||◌, List, [], ◌∷◌, ◌++◌, ℕ, zero, suc, ◌+◌, ◌-◌, ◌≤◌, ◌<◌, ltb, leb, eqb, length, get_or, take, drop, set, replicate}
-use Rattle.std.proofs.Common.{sym, ap, ◌∙◌, subst, append_assoc, append-nil, zero-le, arith, zero-add, length-append, length-drop, take-append-drop, drop-drop, get_or-drop, length-take-le, ltb-false, le-ltb, leb-true, eq-eqb}
+use Rattle.std.specs.Prelude.{◌≡◌, refl, Bool, true, false, not, ◌&&◌, ◌||◌, List, [], ◌∷◌, ◌++◌, ℕ, zero, suc, ◌+◌, ◌-◌, ◌≤◌, ◌<◌, ltb, leb, eqb, length, take, drop, set, replicate}
+use Rattle.std.proofs.Common.{sym, ap, ◌∙◌, append_assoc, append-nil, zero-le, arith, zero-add, length-append, length-drop, take-append-drop, drop-drop, get_or-drop, length-take-le, ltb-false, le-ltb, leb-true, eq-eqb}
 use Rattle.std.proofs.Math.Bool.{cond}
-use Rattle.std.proofs.lemmas.Bool.{false≢true, not-false}
+use Rattle.std.proofs.lemmas.Bool.{not-false}
 use Rattle.std.proofs.Math.Decide.{dec_lt}
 use Rattle.std.proofs.Math.Seq.{set-append_seam, take-append-add, drop-append-add}
 use Rattle.refusals.specs.Refusal.{◌when◌, first, passed}
@@ -13,7 +13,7 @@ use Rattle.state.specs.Manager.{Manager}
 use Rattle.state.specs.Manager.{regions}
 use Rattle.state.specs.Bounds.{state_right}
 use Rattle.state.specs.Common.{judged}
-use Rattle.words.specs.Words.{manager_in, words_of}
+use Rattle.words.specs.Words.{manager_in}
 use Rattle.words.specs.Laws.{Held, routes_eight, words_length, manager_words}
 use Rattle.words.specs.HeldIn.{Words32, held_in}
 use Rattle.events.specs.declared.Answer.{Answer}

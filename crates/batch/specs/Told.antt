@@ -1,6 +1,6 @@
 -- What a packet answers, as the call hands it back (document 02, ask 8): 64 answers by value, zeros behind those of the tried records. Assumes
 -- nothing.
-use Rattle.std.specs.Prelude.{List, [], ◌∷◌, ◌++◌, ℕ, ◌-◌, length, replicate}
+use Rattle.std.specs.Prelude.{List, ◌++◌, ℕ, ◌-◌, length, replicate}
 use Rattle.events.specs.declared.Answer.{Answer}
 use Rattle.packets.specs.Fold.{Taken}
 use Rattle.batch.specs.declared.Answers.{Answers}

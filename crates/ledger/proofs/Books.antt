@@ -1,7 +1,7 @@
 -- What the ledger alone does at an event, with no manager: settings, address and bias never change, and it adds to a line's counts,
 -- closed files and records exactly what Demand3 counts of it by the rules of routing and loss. Lists: Lists.antt. Assumes nothing.
 use Rattle.std.specs.Prelude.{◌≡◌, Bool, true, false, cond, not, ◌&&◌, ◌||◌, List, [], ◌∷◌, ◌++◌, map, ltb, leb, eqb, length, get_or}
-use Rattle.std.proofs.Math.Path.{refl, ap, transport}
+use Rattle.std.proofs.Math.Path.{refl, ap}
 use Rattle.std.proofs.Common.{sym, ◌∙◌, subst, true≢false, append_assoc, append-nil, arith, length-append, get_or-set_same, get_or-set_other, eqb-true, eq-eqb, ne_eqb, leb-false}
 use Rattle.std.proofs.lemmas.Bool.{false≢true, eqb-false}
 use Prim.Native.Nat.{ℕ, zero, suc, ◌+◌, ◌≤◌, ◌<◌, ◌^◌}

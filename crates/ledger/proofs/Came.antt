@@ -1,14 +1,14 @@
 -- The ledger's rule for set times of day (Ledger, `one_came`) is the paper's (document 02, ask 6): there is a time, behind the file's
 -- opening and not behind the effective time, whose local minute of day is one of the route's set minutes; and so it is that of the events
 -- (events, Met). Assumes nothing.
-use Rattle.std.specs.Prelude.{◌≡◌, refl, Bool, true, false, ◌||◌, List, [], ◌∷◌, ℕ, zero, suc, ◌-◌, ◌%◌, ◌≤◌, ◌<◌, leb, length, get_or}
+use Rattle.std.specs.Prelude.{◌≡◌, refl, Bool, true, false, ◌||◌, List, [], ◌∷◌, ℕ, zero, suc, ◌%◌, ◌≤◌, ◌<◌, leb, length, get_or}
 use Rattle.std.proofs.Common.{sym, ap, ◌∙◌, arith, leb-true, le-leb}
 use Rattle.std.proofs.lemmas.Bool.{false≢true}
 use Rattle.refusals.specs.Refusal.{or_left, or_right}
 use Rattle.timestamp.specs.LocalTime.{local_time}
 use Rattle.state.specs.SetTimes.{SetWithin}
 use Rattle.words.specs.Laws.{same_test}
-use Rattle.events.specs.Met.{met, Met, met_true, true_met}
+use Rattle.events.specs.Met.{met, met_true, true_met}
 use Rattle.ledger.specs.Ledger.{next_with, one_came}
 use Rattle.ledger.proofs.Agrees.{AgreesSets}
 

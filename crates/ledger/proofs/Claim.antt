@@ -22,8 +22,8 @@ use Rattle.packets.specs.Fold.{Taken, untried, before, take_all, empty_refusal, 
 use Rattle.ledger.specs.Event.{Event, open_event, close_event, tick_event, receive_event, Call, event_call, packet_call, Lent, Said, event_answer, packet_answers, refusal_in, as_receive}
 use Rattle.ledger.specs.Ledger.{Ledger, Closing, lengths, rules, refusal, answer_by, answer_of, entry_by, entry_of}
 use Rattle.ledger.specs.Ledger.{regions as regions_booked}
-use Rattle.ledger.specs.Packets.{Packed, nothing, and_then, receives_each, receives_list, packet_of}
-use Rattle.ledger.specs.Run.{happens, leaves, Done, by_event, by_packet, done_by, run_of, Booked, by_entry, by_packed, booked, books_of, closings_in, joined, end_of, store_after, ledger_after}
+use Rattle.ledger.specs.Packets.{Packed, nothing, and_then, receives_each, receives_list}
+use Rattle.ledger.specs.Run.{happens, leaves, Done, by_event, by_packet, done_by, run_of, Booked, by_packed, booked, books_of, closings_in, joined, end_of, store_after, ledger_after}
 use Rattle.ledger.proofs.Agrees.{Agrees}
 use Rattle.ledger.proofs.Regions.{regions_same}
 use Rattle.ledger.proofs.Books.{answer_refusal}

@@ -1,12 +1,12 @@
 -- The octets of filters that are compared with a key (document 02, ask 7): the ledger's steps (Ledger, `compared_of`) are as many as the
 -- manager's definition counts (state, Compared). Assumes nothing.
-use Rattle.std.specs.Prelude.{◌≡◌, refl, Bool, true, false, cond, ◌&&◌, ℕ, zero, suc, ◌+◌, ◌≤◌, ◌<◌, ltb, leb, eqb, length, get_or, take}
+use Rattle.std.specs.Prelude.{◌≡◌, refl, Bool, true, false, cond, ◌&&◌, ℕ, zero, suc, ◌+◌, ◌≤◌, ◌<◌, eqb, length, get_or, take}
 use Rattle.std.proofs.Common.{sym, ◌∙◌, arith, take_all, lt-ltb, le-ltb, le-leb}
 use Rattle.std.proofs.Math.Path.{ap}
 use mathlib.Core.List.{List, [], ◌∷◌}
 use Rattle.std.proofs.Math.Decide.{dec_lt}
 use Rattle.std.proofs.lemmas.Bool.{lt-leb}
-use Rattle.refusals.specs.Below.{all_below, leading, leading_most}
+use Rattle.refusals.specs.Below.{all_below, leading}
 use Rattle.octets.specs.Alike.{same_at}
 use Rattle.state.specs.declared.RouteSettings.{RouteSettings}
 use Rattle.state.specs.Manager.{Manager}

@@ -1,11 +1,10 @@
 -- What the ledger alone does over any list of calls, with no manager: each event that is tried adds what Demand3 counts of it (Books), hence so
 -- does a packet, and so does a list. On every line of a fresh ledger received = closed + open + lost, and the loss counts in its closed
 -- files and the pending ones are the lost and the unrouted records. Assumes nothing.
-use Rattle.std.specs.Prelude.{◌≡◌, refl, ◌↔◌, Bool, true, false, cond, not, ◌&&◌, List, [], ◌∷◌, ◌++◌, ℕ, zero, suc, ◌+◌, ◌-◌, ◌<◌, ltb, eqb, length, get_or}
+use Rattle.std.specs.Prelude.{◌≡◌, refl, ◌↔◌, Bool, true, false, cond, not, ◌&&◌, List, [], ◌∷◌, ◌++◌, ℕ, zero, suc, ◌+◌, ◌-◌, ◌<◌, eqb, length, get_or}
 use Rattle.std.proofs.Common.{sym, ap, ◌∙◌, subst, append_assoc, append-nil, arith, add-zero, length-append, eqb-true, eq-eqb}
 use Rattle.std.proofs.Math.Path.{transport}
 use Rattle.std.proofs.Math.Dec.{eqb-suc-zero}
-use Rattle.refusals.specs.Refusal.{◌when◌, first}
 use Rattle.record.specs.Record.{Record}
 use Rattle.cdrfile.specs.File.{File}
 use Rattle.state.specs.declared.RouteSettings.{RouteSettings}
@@ -14,8 +13,8 @@ use Rattle.settings.specs.Settings.{routes_in, route_start}
 use Rattle.events.specs.declared.Answer.{Answer}
 use Rattle.events.specs.declared.Arrival.{Arrival}
 use Rattle.packets.specs.Packet.{Delivered, wrong_packet, delivered}
-use Rattle.ledger.specs.Event.{Event, open_event, close_event, tick_event, receive_event, Call, event_call, packet_call, Lent, Said, Heard, as_receive, tried_of, tried, heard}
-use Rattle.ledger.specs.Ledger.{none, Line, Ledger, no_line, line_at, Closing, Entry, lengths, records_in, records_of, routed_to, lost_by, regions, refusal, answer_by, answer_of, entry_of}
+use Rattle.ledger.specs.Event.{Event, open_event, close_event, tick_event, receive_event, Call, event_call, packet_call, Lent, Heard, as_receive, tried_of, tried, heard}
+use Rattle.ledger.specs.Ledger.{none, Line, Ledger, no_line, line_at, Closing, lengths, records_in, records_of, routed_to, lost_by, refusal, answer_by, answer_of, entry_of}
 use Rattle.ledger.specs.Packets.{Packed, nothing, and_then, receives_each, receives_list, packet_of}
 use Rattle.ledger.specs.Run.{Done, said_in, Booked, booked, books_of, booked_in, closings_in, ledger_after, line_from, lines_from, ledger_from}
 use Rattle.ledger.specs.Demand3.{received_on, lost_rule, lost_there, LostExactly, unrouted_by, one, received, lost, unrouted, placed_if, placed, on_route, closed_on, AllBelow, Answered}

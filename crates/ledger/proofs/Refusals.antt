@@ -13,7 +13,6 @@ use Rattle.events.specs.Rules.{allowed}
 use Rattle.events.specs.Rules.{routed_to as manager_routes}
 use Rattle.events.specs.Events.{open_rules}
 use Rattle.state.specs.Common.{common}
-use Rattle.events.specs.Receive.{counters_full as manager_full}
 use Rattle.ledger.specs.Event.{open_event, close_event, tick_event}
 use Rattle.ledger.specs.Ledger.{Ledger, line_at, is_open, among_lines, routed_to, closing_reasons, is_one_of, needed_by, refusal}
 use Rattle.ledger.specs.Ledger.{regions as line_regions}

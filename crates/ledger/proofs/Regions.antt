@@ -1,7 +1,7 @@
 -- Routes and lines by index, the regions of the store, and the relation of `Agrees` as a whole (document 01, The events; The
 -- ledger of demand 3): regions do not overlap, so what is written to one route's region leaves the others' files; a change of one
 -- route and its line keeps the relation; and the bounds of a state that agrees, as facts. Assumes nothing.
-use Rattle.std.specs.Prelude.{◌≡◌, refl, true, List, [], ◌∷◌, ℕ, zero, suc, ◌+◌, ◌-◌, ◌≤◌, ◌<◌, length, get_or, set, take, drop}
+use Rattle.std.specs.Prelude.{◌≡◌, refl, true, List, [], ◌∷◌, ℕ, zero, suc, ◌+◌, ◌≤◌, ◌<◌, length, get_or, set, take, drop}
 use Rattle.std.proofs.Common.{sym, ap, ◌∙◌, subst, arith, length-set, get_or-set_same, get_or-set_other, take-add, take_all, drop_at, length-take-le}
 use Rattle.std.proofs.Math.Decide.{ℕ_discrete, dec_lt}
 use Rattle.std.proofs.Math.ListN.{get_or-map}

@@ -2,11 +2,11 @@
 -- predecessors' files left of the output; the first that is refused is the last that is tried, and what was booked before it stands.
 -- First of all 11, by the packet's octets alone; a packet without records is judged by the store's length (16) and changes nothing. 18
 -- never applies. What a packet's octets say is shared with the manager's side (packets, Packet.antt). Assumes nothing.
-use Rattle.std.specs.Prelude.{cond, List, [], ◌∷◌, ◌++◌, ℕ, zero, suc, ◌-◌, ltb, length}
+use Rattle.std.specs.Prelude.{cond, List, [], ◌∷◌, ◌++◌, ℕ, zero, suc, ◌-◌, ltb}
 use Rattle.refusals.specs.Refusal.{◌when◌, first}
 use Rattle.events.specs.declared.Answer.{Answer}
 use Rattle.packets.specs.Packet.{Delivered, wrong_packet, delivered}
-use Rattle.ledger.specs.Event.{Event, as_receive}
+use Rattle.ledger.specs.Event.{as_receive}
 use Rattle.ledger.specs.Ledger.{Ledger, Entry, lengths, regions, refusal, answer_of, entry_of}
 
 -- what the ledger says of a packet: the refusal that stopped it or 0, how many records were accepted, the answer of each that was tried, and

@@ -1,7 +1,7 @@
 -- `placing::carrying::close_around` meets its contract: what is written before a closing leaves the lengths as they were, and the
 -- second file stands behind the first. Assumes nothing.
-use mathlib.Core.Path.{◌≡◌, sym, ◌∙◌}
-use lib.ListN.{length, length-map}
+use mathlib.Core.Path.{◌≡◌}
+use lib.ListN.{length}
 use Rattle.std.proofs.Common.{arith, rules}
 use Rattle.placing.specs.Made.{closable_kept, carried_made}
 use Rattle.placing.proofs.carrying.close_around.Goals as goal
