@@ -17,8 +17,8 @@ use Rattle.events.specs.Events.{refusal_of}
 use Rattle.events.specs.Receive.{receive_of}
 use Rattle.events.specs.Lent.{Left, left, worded, unlike, receive_on}
 use Rattle.receiving.specs.Cases.{receive_common}
-use Rattle.packets.specs.Packet.{Delivered, wrong_packet, delivered}
-use Rattle.packets.specs.Walk.{count_of, count_few}
+use Rattle.packets.specs.Packet.{Delivered, wrong_packet, delivered, count_of}
+use Rattle.packets.proofs.Walk.{count_few}
 use Rattle.packets.specs.Fold.{Taken, untried, before, received, take_all, empty_refusal, listed_on, packet_on}
 use Rattle.batch.specs.declared.Answers.{Answers}
 use Rattle.batch.specs.Told.{answers_of, told, told_of}

@@ -24,7 +24,7 @@ use Rattle.events.specs.Stays.{Stays, receive_stays}
 use Rattle.events.specs.Work.{receive_room}
 use Rattle.events.specs.Lent.{Left, worded, unlike, receive_on}
 use Rattle.packets.specs.Packet.{Delivered, size_of, first_of, whole, records_in, wrong_packet, delivered}
-use Rattle.packets.specs.Walk.{records_few}
+use Rattle.packets.proofs.Walk.{records_few}
 use Rattle.packets.specs.Fold.{Taken, before, received, take_all}
 use Rattle.batch.specs.declared.Answers.{Answers}
 use Rattle.batch.specs.Told.{no_answer, padded, answers_of, told, told_of}

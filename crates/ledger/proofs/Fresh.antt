@@ -12,7 +12,7 @@ use Rattle.state.specs.Within.{within}
 use Rattle.settings.specs.Settings.{routes_in, sets_in, route_start, route_from, minutes_of, set_times_from, manager_from, verdict, fresh_of}
 use Rattle.settings.specs.Cases.{routes_length}
 use Rattle.settings.specs.Sets.{set_count_is, set_minute_is}
-use Rattle.settings.specs.Accepted.{refusal_is, accepted_right, accepted_route}
+use Rattle.settings.proofs.Verdict.{refusal_is, accepted_right, accepted_route}
 use Rattle.ledger.specs.Ledger.{line_at, no_line}
 use Rattle.ledger.specs.Run.{line_from, lines_from, sets_from, ledger_from}
 use Rattle.ledger.proofs.Agrees.{Agrees, AgreesLine, AgreesSets}

@@ -63,3 +63,7 @@ record_octets d =
 abbrev pub packet_octets : List Delivered → List ℕ
 packet_octets [] = []
 packet_octets (d ∷ ds) = record_octets d ++ packet_octets ds
+
+-- what the call that counts a packet's records answers
+abbrev pub count_of : List ℕ → ℕ
+count_of xs = cond (wrong_packet xs) 65 (length (delivered xs))

@@ -2,8 +2,7 @@
 #![tactic(auto)]
 
 ghost use Rattle.std.specs.Prelude.{◌≡◌, ◌+◌, ◌≤◌, ◌<◌, length, drop};
-ghost use Rattle.packets.specs.Packet.{size_of, arrival_of};
-ghost use Rattle.packets.specs.Walk.{count_of};
+ghost use Rattle.packets.specs.Packet.{size_of, arrival_of, count_of};
 
 use events::Arrival;
 

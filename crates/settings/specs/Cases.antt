@@ -74,32 +74,6 @@ module _ (xs : List ℕ) where
         whole = eqb-true (length xs) (set_start xs (sets_in xs)) (not-false whole c.1);
       }
 
-  -- the answer, by the first refusal
-  pub fresh_shape : wrong_shape xs ≡ true → fresh_of xs ≡ refused_fresh 1
-  unfolding fresh_of verdict
-  fresh_shape w = rw w
-
-  pub fresh_range : wrong_shape xs ≡ false → beyond_range xs ≡ true → fresh_of xs ≡ refused_fresh 2
-  unfolding fresh_of verdict
-  fresh_range w b = rw (w, b)
-
-  module _ (w : wrong_shape xs ≡ false) (b : beyond_range xs ≡ false) {d : Bool} (ed : d ≡ distinct (manager_from xs (routes_in xs)) (routes_in xs)) where
-    filters_are : equal_filters xs ≡ not d
-    unfolding equal_filters
-    filters_are = sym (ap not ed)
-
-    pub fresh_equal : d ≡ false → fresh_of xs ≡ refused_fresh 3
-    unfolding fresh_of verdict
-    fresh_equal e = rw (w, b, filters_are ∙ ap not e)
-
-    pub fresh_unset : d ≡ true → wrong_sets xs ≡ true → fresh_of xs ≡ refused_fresh 22
-    unfolding fresh_of verdict
-    fresh_unset e f = rw (w, b, filters_are ∙ ap not e, f)
-
-    pub fresh_taken : d ≡ true → wrong_sets xs ≡ false → fresh_of xs ≡ record { refusal = 0; manager = manager_from xs (routes_in xs) }
-    unfolding fresh_of verdict
-    fresh_taken e f = rw (w, b, filters_are ∙ ap not e, f)
-
 -- The words of the state of a refusal are zeros.
 pub no_words : replicate 360 0 ≡ words_of no_manager
 unfolding words_of

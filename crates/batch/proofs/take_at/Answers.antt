@@ -4,7 +4,7 @@ use Prim.Native.Nat.{◌+◌, ◌≤◌}
 use native.Mathlib.Omega.{arith}
 use lib.ListN.{length, get_or}
 use Rattle.events.specs.Lent.{receive_on}
-use Rattle.packets.specs.Walk.{size_at, time_at, key_at, body_at}
+use Rattle.packets.proofs.Walk.{size_at, time_at, key_at, body_at}
 use Rattle.batch.proofs.take_at.Goals as goal
 use Rattle.batch.proofs.take_at.Goals.{After-num32-body}
 

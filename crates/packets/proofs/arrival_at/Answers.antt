@@ -1,5 +1,5 @@
 -- `packets::arrival_at` meets its contract: each field stands in its place. Assumes nothing.
-use Rattle.packets.specs.Walk.{arrival_at}
+use Rattle.packets.proofs.Walk.{arrival_at}
 use Rattle.packets.proofs.arrival_at.Goals as goal
 
 pub returns : goal.returns

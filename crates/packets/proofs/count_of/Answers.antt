@@ -1,7 +1,7 @@
 use mathlib.Core.Path.{sym, subst}
 use Prim.Native.Nat.{ℕ, ◌+◌, ◌<◌}
 use native.Mathlib.Omega.{arith}
-use Rattle.packets.specs.Walk.{Walking, walk_begins, walk_ends, walk_many, walk_cut, walk_on}
+use Rattle.packets.proofs.Walk.{Walking, walk_begins, walk_ends, walk_many, walk_cut, walk_on}
 use Rattle.packets.proofs.count_of.Goals as goal
 use Rattle.packets.proofs.count_of.Goals.{Else-n-eq64}
 

@@ -1,7 +1,7 @@
 -- `packets::count_of` meets its contract: before each record those before it are whole, and so many. Assumes nothing.
 use Prim.Native.Nat.{◌-◌}
 use lib.ListN.{length}
-use Rattle.packets.specs.Walk.{Walking}
+use Rattle.packets.proofs.Walk.{Walking}
 use Rattle.packets.proofs.count_of.Given as goal
 
 abbrev pub invariant-loop-at : goal.invariant-loop-at

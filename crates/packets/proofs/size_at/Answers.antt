@@ -4,7 +4,7 @@ use Prim.Native.Nat.{◌+◌, ◌<◌}
 use native.Mathlib.Omega.{arith}
 use lib.ListN.{get_or}
 use Rattle.octets.specs.Number.{Octets, num_lt}
-use Rattle.packets.specs.Walk.{size_at}
+use Rattle.packets.proofs.Walk.{size_at}
 use Rattle.packets.proofs.size_at.Goals as goal
 use Rattle.packets.proofs.size_at.Goals.{After-num32-body}
 

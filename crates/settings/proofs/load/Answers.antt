@@ -13,7 +13,8 @@ use Rattle.state.specs.Bounds.{distinct}
 use Rattle.words.specs.Words.{manager_in, words_of}
 use Rattle.refusals.specs.Below.{all_below}
 use Rattle.settings.specs.Settings.{wrong_shape, beyond_range, routes_in, sets_in, route_start, set_time_right, wrong_sets, manager_with, manager_from, worded}
-use Rattle.settings.specs.Cases.{shaped, fresh_shape, fresh_range, fresh_equal, fresh_unset, fresh_taken}
+use Rattle.settings.specs.Cases.{shaped}
+use Rattle.settings.proofs.Verdict.{fresh_shape, fresh_range, fresh_equal, fresh_unset, fresh_taken}
 use Rattle.settings.specs.Held.{out_of_range, words_range, words_distinct}
 use Rattle.settings.proofs.load.Goals as goal
 use Rattle.settings.proofs.load.Goals.{Else-wrong_shape}

@@ -4,11 +4,7 @@ use Rattle.std.specs.Prelude.{◌≡◌, refl, Bool, true, false, cond, not, ◌
 use Rattle.std.proofs.Common.{sym, ap, ◌∙◌, arith, zero-add, length-drop, drop_of_length-le, drop-drop, get_or-drop, le-leb, ne_eqb}
 use Rattle.std.proofs.lemmas.Bool.{lt-leb}
 use Rattle.octets.specs.Number.{num}
-use Rattle.packets.specs.Packet.{arrival_of, size_of, first_of, whole, records_in, wrong_packet, delivered}
-
--- what the call answers
-abbrev pub count_of : List ℕ → ℕ
-count_of xs = cond (wrong_packet xs) 65 (length (delivered xs))
+use Rattle.packets.specs.Packet.{arrival_of, size_of, first_of, whole, records_in, wrong_packet, delivered, count_of}
 
 pub record Walking (xs : List ℕ) (at n : ℕ) : Type 0 where
   pub inside : at ≤ length xs

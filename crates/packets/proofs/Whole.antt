@@ -17,7 +17,7 @@ use Rattle.events.specs.Lent.{worded, unlike, receive_on}
 use Rattle.events.specs.Work.{receive_first}
 use Rattle.packets.specs.Packet.{Delivered, key_length, body_length, size_of, first_of, whole, records_in, wrong_packet, delivered, packet_octets}
 use Rattle.packets.specs.Laws.{Roomy, AllRoomy, read_back, packet_whole}
-use Rattle.packets.specs.Walk.{records_few}
+use Rattle.packets.proofs.Walk.{records_few}
 use Rattle.packets.specs.Fold.{Taken, untried, before, received, take_all, listed_on, packet_on}
 
 -- xs are the octets of at most 64 records, each of which has room in a packet
