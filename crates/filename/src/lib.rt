@@ -1,4 +1,6 @@
 // File names (document 02, ask 1; 000, 6.2): a writer and a reader over any octets and any field values.
+#![tactic(auto)]
+
 mod reading;
 mod right;
 mod spelling;

@@ -1,4 +1,6 @@
 // Two parts of octets in lexicographic order: 0, the first comes before the second; 1, they are the same; 2, the first comes after the second.
+#![tactic(auto)]
+
 ghost use Rattle.std.specs.Prelude.{◌≡◌, ◌≤◌, min, length, drop};
 ghost use Rattle.lexicographic.specs.Lexicographic.{order_of};
 

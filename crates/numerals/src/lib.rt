@@ -1,4 +1,6 @@
 // Numbers in decimal and octets in hexadecimal, in ASCII.
+#![tactic(auto)]
+
 ghost use Rattle.std.specs.Prelude.{◌≡◌, ◌+◌, ◌%◌, ◌≤◌, ◌<◌, length};
 ghost use Rattle.octets.specs.Splice.{splice};
 ghost use Rattle.numerals.specs.Decimal.{digits, width, decimal};

@@ -1,4 +1,6 @@
 // The offsets of the records of a file.
+#![tactic(auto)]
+
 ghost use Rattle.std.specs.Prelude.{◌≡◌, ◌≤◌, length, take};
 ghost use Rattle.offsets.specs.Offsets.{offsets_of};
 

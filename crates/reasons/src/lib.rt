@@ -1,5 +1,7 @@
 // Closure reasons and refusals in words, laid on a page (../shared/CDRSHOW.md). A page has room for them: 128 octets behind the place where they
 // begin.
+#![tactic(auto)]
+
 mod closure;
 mod refused;
 

@@ -1,5 +1,7 @@
 // Main and standby held together (document 02, ask 9): how many records are in both of two files, only in the first and only in the second. The records of
 // each file are sorted by their octets, as offsets, and a walk over both lists counts those that they share.
+#![tactic(auto)]
+
 ghost use Rattle.std.specs.Prelude.{◌≡◌, ◌≤◌, length, take};
 ghost use Rattle.recordorder.specs.At.{comes_before};
 ghost use Rattle.offsets.specs.Offsets.{offsets_of};

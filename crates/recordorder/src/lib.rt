@@ -1,4 +1,6 @@
 // The octets of the record at an offset of a file, and the order of two records by them.
+#![tactic(auto)]
+
 ghost use Rattle.std.specs.Prelude.{◌≡◌, drop};
 ghost use Rattle.recordorder.specs.At.{record_at, comes_before};
 ghost use Rattle.lexicographic.specs.Lexicographic.{order_of};

@@ -1,4 +1,6 @@
 // The records in both of two files.
+#![tactic(auto)]
+
 ghost use Rattle.std.specs.Prelude.{◌≡◌, map, ◌≤◌};
 ghost use Rattle.recordorder.specs.At.{record_at, comes_before};
 ghost use Rattle.multisets.specs.Passing.{one_if, Sorted};

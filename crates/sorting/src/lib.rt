@@ -1,4 +1,6 @@
 // The records of a file in the order of their octets: a merge sort of their offsets.
+#![tactic(auto)]
+
 ghost use Rattle.std.specs.Prelude.{◌≡◌, true, false, ◌+◌, ◌-◌, ◌≤◌, ◌<◌, length, take, drop, get_or};
 ghost use Rattle.recordorder.specs.At.{comes_before};
 ghost use Rattle.multisets.specs.Passing.{Sorted};

@@ -1,5 +1,7 @@
 // What a lost octet and a private extension say, in words, laid on a page (../shared/CDRSHOW.md). A page has room for them: 128 octets behind the
 // place where they begin, and for an extension its digits too.
+#![tactic(auto)]
+
 mod laying;
 mod lost;
 mod private;
