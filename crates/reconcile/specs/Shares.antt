@@ -1,7 +1,7 @@
 -- How many records two files share, and how many only one of them has.
-use Rattle.std.specs.Prelude.{◌≡◌, refl, Bool, List, ◌++◌, map, ℕ, ◌-◌, ◌≤◌, take}
+use Rattle.std.specs.Prelude.{◌≡◌, Bool, List, ◌++◌, map, ℕ, ◌-◌, ◌≤◌, take}
 use Rattle.std.proofs.Math.Path.{sym}
-use Rattle.std.proofs.Common.{ap, ◌∙◌, subst₂, arith, length-take, take_at}
+use Rattle.std.proofs.Common.{◌∙◌, subst₂, arith, length-take, take_at}
 use Rattle.std.proofs.Math.ListN.{length}
 use Rattle.std.proofs.lemmas.List.{length-map}
 use Rattle.recordorder.specs.At.{record_at, comes_before}

@@ -1,9 +1,9 @@
 -- A walk over two lists of offsets, each in the order of its records, that counts the records in both.
-use Rattle.std.specs.Prelude.{◌≡◌, refl, Bool, true, false, List, [], ◌∷◌, map, ℕ, zero, suc, ◌+◌, ◌-◌, ◌≤◌, ◌<◌, eqb, leb, length, drop, get_or}
+use Rattle.std.specs.Prelude.{◌≡◌, Bool, false, List, [], ◌∷◌, map, ℕ, zero, suc, ◌+◌, ◌≤◌, ◌<◌, eqb, leb, length, drop, get_or}
 use Rattle.std.proofs.Common.{sym, ap, ◌∙◌, subst, arith, add-one, lit≤, drop_of_length-le, drop-cons, eq-eqb, ne_eqb, eqb-true, le-leb}
 use Rattle.std.proofs.lemmas.Bool.{eqb-false}
-use Rattle.lexicographic.specs.Lexicographic.{order_of, order_most, order_turn, order_self, order_same, order_trans}
-use Rattle.multisets.specs.Passing.{one_if, passing, Sorted, passing_none, passing_map}
+use Rattle.lexicographic.specs.Lexicographic.{order_of, order_most, order_turn, order_self, order_same}
+use Rattle.multisets.specs.Passing.{one_if, Sorted, passing_none, passing_map}
 use Rattle.multisets.specs.InBoth.{Equality, multiplicity, stepwise, stepwise_turn, walk_first, walk_second, walk_both}
 
 -- whether two lists of octets are the same

@@ -1,7 +1,7 @@
 -- A list whose two parts were lent, arranged and put back, and then merged, is arranged; and without the merge, where the second part does not begin
 -- before the end of the first.
-use Rattle.std.specs.Prelude.{◌≡◌, refl, Bool, false, List, [], ◌∷◌, ◌++◌, ℕ, suc, ◌+◌, ◌-◌, ◌≤◌, ◌<◌, length, take, drop, get_or}
-use Rattle.std.proofs.Common.{sym, ap, ◌∙◌, subst, subst₂, append-nil, arith, length-take, length-drop, length-append, drop_of_length-le, take_at, drop_at, take_all, get_or-append-add}
+use Rattle.std.specs.Prelude.{◌≡◌, Bool, false, List, [], ◌++◌, ℕ, suc, ◌+◌, ◌-◌, ◌≤◌, ◌<◌, length, take, drop, get_or}
+use Rattle.std.proofs.Common.{sym, ap, ◌∙◌, subst, append-nil, arith, length-take, length-drop, length-append, drop_of_length-le, take_at, drop_at, take_all, get_or-append-add}
 use Rattle.std.proofs.Math.ListN.{get_or-append}
 use Rattle.multisets.specs.Passing.{same_length}
 use Rattle.multisets.specs.Merge.{Arranged, Total, merge_of, arranged_merge, arranged_append}

@@ -1,6 +1,5 @@
 use borrow.Author.Rules.{rules}
 use mathlib.Core.Path.{refl, sym, ◌∙◌}
-use Prim.Native.Nat.{◌-◌}
 use native.Mathlib.Omega.{arith}
 use Rattle.lexicographic.specs.Lexicographic.{at_before, at_after, at_on, end_before, end_after, end_same}
 use Rattle.lexicographic.proofs.order_octets.Goals as goal

@@ -1,5 +1,5 @@
 -- `recordorder::compare` meets its contract: four octets that differ settle it, and otherwise the whole records are compared.
-use mathlib.Core.Path.{◌≡◌, sym, subst₂}
+use mathlib.Core.Path.{sym, subst₂}
 use Prim.Native.Nat.{◌+◌, ◌≤◌, ◌<◌}
 use native.Mathlib.Omega.{arith}
 use lib.ListN.{length}

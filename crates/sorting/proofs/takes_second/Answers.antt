@@ -1,6 +1,6 @@
 -- `sorting::takes_second` meets its contract, by the cases of the choice.
 use mathlib.Core.Path.{sym, ◌∙◌}
-use mathlib.Core.Bool.{true, false, true≢false}
+use mathlib.Core.Bool.{true≢false}
 use native.Mathlib.Omega.{arith}
 use Rattle.recordorder.specs.At.{comes_before}
 use Rattle.multisets.specs.Merge.{second_none, second_only, second_less}
