@@ -78,11 +78,12 @@ returns-then-answer-ne0 c =
 
 pub overflow_add-used : goal.overflow_add-used
 overflow_add-used c =
+    let accepted : c.take_at-answer.result.refusal ≡ 0 = omega arith in
     let l = c.loop-i in
     omega (
       arith,
       ap (λ (y : Left). y.answer.octets) (x_is (goal.at.overflow_add-used c).After-take_at-answer),
-      fit l.invariant (more (goal.at.overflow_add-used c).After-take_at-answer) (octets (goal.at.overflow_add-used c).After-take_at-answer) (taken (goal.at.overflow_add-used c).After-take_at-answer c.if-answer-ne0.false),
+      fit l.invariant (more (goal.at.overflow_add-used c).After-take_at-answer) (octets (goal.at.overflow_add-used c).After-take_at-answer) (taken (goal.at.overflow_add-used c).After-take_at-answer accepted),
       length-drop l.used l.output,
       l.invariant.room,
       l.invariant.wide,
@@ -100,6 +101,7 @@ overflow_add-i c = omega (arith, low (goal.at.overflow_add-i c).After-take_at-an
 
 pub loop-i-preserved : goal.loop-i-preserved
 loop-i-preserved c =
+    let accepted : c.take_at-answer.result.refusal ≡ 0 = omega arith in
     let l = c.loop-i in
     let s = c.args in
     let e = x_is (goal.at.loop-i-preserved c).After-take_at-answer in
@@ -107,7 +109,7 @@ loop-i-preserved c =
     let bits : Words32 c.take_at-answer.new.words = record { at = λ i. omega (arith, c.type_inv.words i) } in
     let same : length (x (goal.at.loop-i-preserved c).After-take_at-answer).output ≡ length (drop l.used l.output) =
     sym (ap (λ (y : Left). length y.output) e) ∙ c.output-1.given.0 ∙ ap length (from_here l.output l.used) in
-    let next = taking_next l.invariant (more (goal.at.loop-i-preserved c).After-take_at-answer) (octets (goal.at.loop-i-preserved c).After-take_at-answer) (taken (goal.at.loop-i-preserved c).After-take_at-answer c.if-answer-ne0.false) same (subst (λ (y : Left). Words32 y.words) e bits) refl in
+    let next = taking_next l.invariant (more (goal.at.loop-i-preserved c).After-take_at-answer) (octets (goal.at.loop-i-preserved c).After-take_at-answer) (taken (goal.at.loop-i-preserved c).After-take_at-answer accepted) same (subst (λ (y : Left). Words32 y.words) e bits) refl in
     let there : (y : Left) (out : List ℕ) (k : ℕ) → Type 0 = λ (y : Left) (out : List ℕ) (k : ℕ). Taking s.packet.now s.n s.words.now s.store.now s.output.now y.words y.store out
     (record { refusal = l.r.refusal; accepted = l.r.accepted; answers = set l.r.answers l.i y.answer }) (l.at + k) (l.used + y.answer.octets) (l.i + 1) in
     let y = left c.take_at-answer.result c.take_at-answer.new.words c.take_at-answer.new.store c.take_at-answer.new.output in
