@@ -1,4 +1,4 @@
--- TWO FILES HELD TOGETHER (document 02, ask 9), stated alone: read this file without its proof (Proof.antt).
+-- TWO FILES HELD TOGETHER (document 02, ask 9), stated alone: read this file without its proof (proofs/ReconciliationHolds.antt).
 --
 -- In plain words. A record is its octets, header and body. Of any two files each clause of `Reconciliation` says:
 --

@@ -10,7 +10,7 @@ use Rattle.reader.specs.Reader.{read_of}
 use Rattle.offsets.specs.Offsets.{offsets_of}
 use Rattle.reconcile.specs.Reconciled.{refused_side}
 use Rattle.reconcile.specs.Shares.{shares_of}
-use Rattle.reconcile.specs.Agreed.{start_within, file_short, offsets_counted, as_held, shares_held, refused_first, refused_second}
+use Rattle.reconcile.proofs.Agreed.{start_within, file_short, offsets_counted, as_held, shares_held, refused_first, refused_second}
 use Rattle.reconcile.proofs.reconcile.Goals as goal
 use Rattle.reconcile.proofs.reconcile.Goals.{Else-d-ne0}
 

@@ -24,9 +24,9 @@ use Rattle.sharing.specs.Counting.{same_octets, same_octets_lem}
 use Rattle.reconcile.specs.declared.Shares.{Shares}
 use Rattle.reconcile.specs.declared.Reconciled.{Reconciled}
 use Rattle.reconcile.specs.Reconciled.{equal_octets, records_filed, refused_side, by_second, by_first, reconciled_of}
-use Rattle.reconcile.specs.Equal.{equal_octets_lem}
+use Rattle.reconcile.proofs.Equal.{equal_octets_lem}
 use Rattle.reconcile.specs.Shares.{shares_of}
-use Rattle.reconcile.specs.Records.{records_are}
+use Rattle.reconcile.proofs.Records.{records_are}
 
 -- An accepted file.
 module _ (x : List ℕ) (e : (read_of x).refusal ≡ 0) where

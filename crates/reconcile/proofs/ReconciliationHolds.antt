@@ -8,8 +8,8 @@ use Rattle.multisets.specs.InBoth.{multiplicity, in_both_by}
 use Rattle.multisets.specs.Surplus.{both_and_only, both_turned, none_only, same_multiset}
 use Rattle.reconcile.specs.declared.Reconciled.{Reconciled}
 use Rattle.reconcile.specs.Reconciled.{equal_octets, records_filed, held_together, by_second, by_first, reconciled_of}
-use Rattle.reconcile.specs.Equal.{equal_octets_lem}
-use Rattle.reconcile.specs.Agreed.{as_counted, refused_first, refused_second}
+use Rattle.reconcile.proofs.Equal.{equal_octets_lem}
+use Rattle.reconcile.proofs.Agreed.{as_counted, refused_first, refused_second}
 use Rattle.reconcile.specs.Reconciliation.{often_in, ListsOnce, BothAccepted, Reconciliation}
 
 -- two accepted files

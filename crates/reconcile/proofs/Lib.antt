@@ -1,0 +1,4 @@
+pub mod ReconciliationHolds
+pub mod Equal
+pub mod Records
+pub mod Agreed
