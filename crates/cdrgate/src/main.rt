@@ -2,7 +2,7 @@
 #![tactic(auto)]
 
 mod happening;
-mod packets;
+mod packet_turns;
 mod replay;
 
 fn main(rt: HostRuntime) {

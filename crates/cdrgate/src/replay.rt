@@ -1,6 +1,6 @@
 // The run: each line of the script is carried out on the manager, and its answer printed.
 use crate::happening::lent_answer_of;
-use crate::packets::{packet_in, take};
+use crate::packet_turns::{packet_in, take};
 use gatesteps::{Run, Turn, answered, start, take_turn};
 use std::io::{Stdin, Stdout};
 use textlines::{finish, turns_of};

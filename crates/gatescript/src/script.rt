@@ -1,5 +1,5 @@
 // What a line of the script asks for.
-use crate::words::{octets_at, small_number_at};
+use crate::line_words::{octets_at, small_number_at};
 use events::Arrival;
 use textlines::number_at;
 

@@ -7,7 +7,7 @@ use lib.Seq.{length-take-le}
 use Rattle.writer.specs.Writer.{After}
 use Rattle.cdrcopy.specs.Rewrite.{rewrite_of, rewrite_fits}
 use Rattle.cdrcopy.proofs.copy.Goals as goal
-use Rattle.cdrcopy.proofs.copy.Goals.{After-struct_known-1, Else-w-ne0}
+use Rattle.cdrcopy.proofs.copy.Goals.{Else-w-ne0}
 
 -- what was written is no longer than the output
 fits : (c : goal.Else-w-ne0) → c.rewrite-w.result.octets ≤ length c.args.output.now
@@ -19,7 +19,9 @@ fits c =
     omega (arith, rewrite_fits a.file.now a.output.now z)
 
 pub slice_bounds-write_all-end : goal.slice_bounds-write_all-end
-slice_bounds-write_all-end c = omega (arith, fits c)
+slice_bounds-write_all-end c = omega (arith, fits (goal.at.slice_bounds-write_all-end c).Else-w-ne0)
 
 pub slice_bounds-write_all-end-2 : goal.slice_bounds-write_all-end-2
-slice_bounds-write_all-end-2 c = sym (length-take-le _ _ (slice-reshare-prefix-write-all (goal.at.slice_bounds-write_all-end-2 c).After-struct_known-1))
+slice_bounds-write_all-end-2 c =
+    let written : c.rewrite-w.result.octets ≤ length c.rewrite-w.new.output = omega (arith, fits (goal.at.slice_bounds-write_all-end-2 c).Else-w-ne0) in
+    sym (length-take-le c.rewrite-w.result.octets c.rewrite-w.new.output written)

@@ -3,9 +3,6 @@ use native.Mathlib.Omega.{arith}
 use Prim.Native.Nat.{◌-◌}
 use Rattle.cdrgate.proofs.replay.replay.Goals as goal
 
-pub loop-number-smaller : goal.loop-number-smaller
-loop-number-smaller c = omega (arith, before_turn c, c.turns_of.ensures)
-
 pub loop-number-preserved : goal.loop-number-preserved
 loop-number-preserved c =
     let l = c.loop-number in (
