@@ -1,7 +1,7 @@
 -- Packets of records, by evaluation (document 02, ask 8): what a packet's octets say and which are refused with 11; and what comes of packets on
 -- the edge table's route, on the manager's side and on the ledger's: one that is taken whole, one that stops half way, outputs that are
 -- filled one behind another, and those without records. Assumes nothing.
-use Rattle.std.specs.Prelude.{◌≡◌, refl, Bool, true, false, List, [], ◌∷◌, ◌++◌, ℕ, length, take, replicate}
+use Rattle.std.specs.Prelude.{◌≡◌, refl, true, false, List, [], ◌∷◌, ◌++◌, ℕ, length, take, replicate}
 use Rattle.octets.specs.Splice.{splice}
 use Rattle.timestamp.specs.Timestamp.{word_of}
 use Rattle.timestamp.specs.LocalTime.{timestamp_of}
@@ -20,7 +20,7 @@ use Rattle.events.specs.Events.{refusal_of, answered}
 use Rattle.events.specs.Receive.{receive_of}
 use Rattle.events.specs.Lent.{receive_on}
 use Rattle.words.specs.Words.{route_in, manager_in, words_of}
-use Rattle.packets.specs.Packet.{Delivered, wrong_packet, delivered, packet_octets}
+use Rattle.packets.specs.Packet.{wrong_packet, delivered, packet_octets}
 use Rattle.packets.specs.Fold.{packet_on}
 use Rattle.ledger.specs.Event.{packet_call, Said, packet_answers}
 use Rattle.ledger.specs.Ledger.{answer_of, entry_of}
