@@ -16,12 +16,12 @@ fn main() {
     println!("cargo::rustc-link-lib=static=exports");
     if !archive.exists() {
         println!("cargo::error={} is missing", archive.display());
-        println!("cargo::error=run `rt staticlib exports` at the repository root first,");
+        println!("cargo::error=run `bash .ci/programs exports` at the repository root first,");
         println!("cargo::error=or set LEVEEHUM_STATICLIB to the folder that has it");
     }
 }
 
-/// The folder that `rt staticlib` writes to, unless the caller names another.
+/// The folder that `.ci/programs` puts the archive into, unless the caller names another.
 fn archive_folder() -> PathBuf {
     match env::var_os("LEVEEHUM_STATICLIB") {
         Some(folder) => PathBuf::from(folder),

@@ -6,8 +6,7 @@ pub fn file_and_more() -> [u8; 1048577] {
     [0; 1048577]
 }
 
-// Linux hands a program no argument of more than 131,071 octets, so every path can be printed as it was given. `os` opens paths of at most
-// 4,095 octets; a file with a longer path cannot be read.
+// Linux hands a program no argument of more than 131,071 octets, so every path can be printed as it was given.
 pub fn longest_argument() -> [u8; 131072] {
     [0; 131072]
 }

@@ -14,7 +14,7 @@ ghost use Rattle.batch.specs.Told.{told, told_of};
 ghost use Rattle.reconcile.specs.Reconciled.{reconciled_of};
 ghost use Rattle.filename.specs.Reading.{read_of as name_of};
 ghost use Rattle.filename.specs.Writing.{after as spelled};
-ghost use Rattle.filename.specs.Writing.{write_of as nameWritten};
+ghost use Rattle.filename.specs.Writing.{write_of as name_written};
 ghost use Rattle.exports.specs.Place.{body_place, part_place};
 
 use batch::Answers;
@@ -201,7 +201,7 @@ pub extern "C" fn cdr_name_write(
     private: &[u8],
     output: &mut [u8],
 ) -> filename::Written
-    ensures { spelled result output.new ≡ nameWritten f node.now private.now output.old }
+    ensures { spelled result output.new ≡ name_written f node.now private.now output.old }
 {
     filename::write(f, node, private, output)
 }
