@@ -62,8 +62,8 @@ mod tests {
             (3, 0, "8, its length"),
             (7, 0, "9, its header length"),
             (10, 0, "10, a timestamp or a reserved length"),
-            (51, 3, "11, a record is cut or has the reserved length"),
-            (21, 0, "12, its count of records"),
+            (51, 3, "11, a record"),
+            (21, 0, "12, its count"),
             (8, 0, "13, its high or low release"),
         ];
         for (at, octet, words) in refused {
