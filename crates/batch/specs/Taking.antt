@@ -1,7 +1,7 @@
 -- A packet's records taken one behind another (document 02, ask 8): what a record leaves is judged still, so that the next can be taken; and
 -- what is known before each record of what is answered and left in all. Assumes nothing.
 use Rattle.std.specs.Prelude.{◌≡◌, refl, Bool, true, false, not, ◌&&◌, ◌||◌, List, [], ◌∷◌, ◌++◌, ℕ, zero, suc, ◌+◌, ◌-◌, ◌≤◌, ◌<◌, ltb, leb, eqb, length, take, drop, set, replicate}
-use Rattle.std.proofs.Common.{sym, ap, ◌∙◌, append_assoc, append-nil, zero-le, arith, zero-add, length-append, length-drop, take-append-drop, drop-drop, get_or-drop, length-take-le, ltb-false, le-ltb, leb-true, eq-eqb}
+use Rattle.std.proofs.Common.{sym, ap, ◌∙◌, subst, append_assoc, append-nil, zero-le, arith, zero-add, length-append, length-drop, take-append-drop, drop-drop, get_or-drop, length-take-le, ltb-false, le-ltb, leb-true, eq-eqb}
 use Rattle.std.proofs.Math.Bool.{cond}
 use Rattle.std.proofs.lemmas.Bool.{not-false}
 use Rattle.std.proofs.Math.Decide.{dec_lt}
@@ -40,7 +40,7 @@ right_judged : (m : Manager) (store : ℕ) → state_right m ≡ true → region
 right_judged m store e h = λ i. cond {A = ℕ} (not (e i)) 18 (cond (le-ltb store (regions m) h i) 16 0)
 
 -- One record.
-module _ (words store output : List ℕ) (d : Delivered) (number : length words ≡ 360) (w : Words32 words) (low : d.arrival.extension < 256)
+module _ (words store output : List ℕ) (d : Delivered) (number : length words ≡ 360) (held : Held (manager_in words)) (low : d.arrival.extension < 256)
     (right : first (judged (manager_in words) (length store) []) ≡ 0) where
   abbrev m : Manager
   m = manager_in words
@@ -52,14 +52,14 @@ module _ (words store output : List ℕ) (d : Delivered) (number : length words 
   unfolding receive_on
   on = λ i. cond (eq-eqb (length words) 360 number i) (worded done) (unlike words store output)
 
-  held : Held m
-  held = held_in words number w
-
   stays : Stays m store done
   stays = receive_stays m store output d.time d.arrival d.key d.body (routes_eight words) (judged_right m (length store) right).0
 
   left_held : Held done.outcome.manager
   left_held = receive_held held store output d.time d.arrival d.key d.body low
+
+  pub left_holds : Held (manager_in (received d words store output).words)
+  left_holds = subst Held (sym (ap (λ (x : Left). manager_in x.words) on ∙ manager_words done.outcome.manager left_held)) left_held
 
   pub left_number : length (received d words store output).words ≡ 360
   left_number = ap (λ (x : Left). length x.words) on ∙ words_length done.outcome.manager left_held.eight left_held.sets
@@ -95,7 +95,7 @@ pub record Taking (xs : List ℕ) (n : ℕ) (words₀ store₀ output₀ words s
   pub many : length tried ≡ i
   pub says : r ≡ answers_of 0 0 tried
   pub number : length words ≡ 360
-  pub bits : Words32 words
+  pub held : Held (manager_in words)
   pub right : first (judged (manager_in words) (length store) []) ≡ 0
   pub long : length store ≡ length store₀
   pub wide : length output ≡ length output₀
@@ -115,7 +115,7 @@ taking_begins xs words store output e number bits right all many =
       many = refl;
       says = e;
       number = number;
-      bits = bits;
+      held = held_in words number bits;
       right = right;
       long = refl;
       wide = refl;
@@ -256,7 +256,7 @@ module _ {xs : List ℕ} {n : ℕ} {words₀ store₀ output₀ words store outp
       k = x.answer.octets
 
       pub fit : k ≤ length (drop used output)
-      fit = left_room words store (drop used output) (first_of ys) v.number v.bits low v.right z
+      fit = left_room words store (drop used output) (first_of ys) v.number v.held low v.right z
 
       -- the output, with what the record filled
       module _ (same : length x.output ≡ length (drop used output)) where
@@ -276,9 +276,9 @@ module _ {xs : List ℕ} {n : ℕ} {words₀ store₀ output₀ words store outp
             let e : used + k ≡ length (take used output) + k = ap (λ (q : ℕ). q + k) (sym (length-take-le used output v.room)) in
             ap (λ (q : ℕ). drop q out) e ∙ drop-append-add (take used output) x.output k
 
-        pub taking_next : {r' : Answers} → Words32 x.words → r' ≡ record { refusal = r.refusal; accepted = r.accepted; answers = set r.answers i x.answer }
+        pub taking_next : {r' : Answers} → r' ≡ record { refusal = r.refusal; accepted = r.accepted; answers = set r.answers i x.answer }
             → Taking xs n words₀ store₀ output₀ x.words x.store out r' (at + size_of ys) (used + k) (i + 1)
-        taking_next bits e =
+        taking_next e =
             let steps : 63 - i ≡ 64 - (i + 1) = omega arith in
             let d = drop-drop (size_of ys) at xs in
             let tried = v.tried ++ (x.answer ∷ []) in
@@ -289,10 +289,10 @@ module _ {xs : List ℕ} {n : ℕ} {words₀ store₀ output₀ words store outp
                   e
                   ∙ ap (λ (q : Answers). record { refusal = q.refusal; accepted = q.accepted; answers = set q.answers i x.answer }) v.says
                   ∙ ap (λ (l : List Answer). record { refusal = 0; accepted = 0; answers = l }) (set_padded v.tried i x.answer v.many below);
-              bits = bits;
-              number = left_number words store (drop used output) (first_of ys) v.number v.bits low v.right;
-              right = left_judged words store (drop used output) (first_of ys) v.number v.bits low v.right;
-              long = left_long words store (drop used output) (first_of ys) v.number v.bits low v.right ∙ v.long;
+              held = left_holds words store (drop used output) (first_of ys) v.number v.held low v.right;
+              number = left_number words store (drop used output) (first_of ys) v.number v.held low v.right;
+              right = left_judged words store (drop used output) (first_of ys) v.number v.held low v.right;
+              long = left_long words store (drop used output) (first_of ys) v.number v.held low v.right ∙ v.long;
               wide = out_length ∙ v.wide;
               few = omega (arith, below);
               inside = taking_fits;

@@ -25,10 +25,7 @@ pub fn local_date(n: u32) -> Date
     let first = (153 * from_march + 2) / 5;
     let month = (from_march + 2) % 12 + 1;
     let day = year_day - first + 1;
-    Date {
-        month: month,
-        day: day,
-    }
+    Date { month, day }
 }
 
 // The most days that a month has in any year; 0 for a number that is no month.
@@ -36,6 +33,5 @@ pub fn longest(month: u32) -> u32
     ensures { result ≡ longest month }
 {
     let days = [0u32, 31, 29, 31, 30, 31, 30, 31, 31, 30, 31, 30, 31];
-    let at = month as usize;
-    if at < 13 { days[at] } else { 0 }
+    days.get(month as usize).copied().unwrap_or(0)
 }

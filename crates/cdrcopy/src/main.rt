@@ -5,9 +5,11 @@
 ghost use Rattle.writer.specs.Writer.{after};
 ghost use Rattle.cdrcopy.specs.Copy.{Rewrites};
 
-use std::io::{Stdin, Stdout};
-use streams::{read_full, read_some, write_all, write_decimal};
+use textlines::{Page, zeros};
 use writer::Written;
+
+// The longest file that is copied.
+const LONGEST: usize = 65536;
 
 // Writes over the start of the output what the reader hands back of a file: the same octets, if the output is long enough. The answer is
 // the writer's, or the reader's refusal, which leaves the output unchanged.
@@ -15,6 +17,7 @@ fn rewrite(file: &[u8], output: &mut [u8]) -> Written
     ensures { Rewrites file.now output.old (after result output.new) }
 {
     let c = reader::read(file);
+    // C reads what the reader and the writer answer: a refusal there is a number, 0 for none.
     if c.refusal != 0 {
         return Written {
             refusal: c.refusal,
@@ -27,39 +30,27 @@ fn rewrite(file: &[u8], output: &mut [u8]) -> Written
     writer::write(c.header, filter, private, records, output)
 }
 
-// The line of a refusal.
-fn print_refusal(stdout: Stdout, number: u8) -> bool {
-    write_all(stdout, b"E ") && write_decimal(stdout, number as u64) && write_all(stdout, b"\n")
-}
-
-// Writes a file again to standard output, or the line of its refusal.
-fn copy(stdout: Stdout, file: &[u8], output: &mut [u8]) {
+// A file written again, or the line of its refusal: those beyond the program's limit are refused with 8.
+fn copy(page: &mut Page<'_>, file: &[u8], output: &mut [u8]) {
+    if LONGEST < file.len() {
+        println!(page; "E 8");
+        return;
+    }
     let w = rewrite(file, output);
     if w.refusal != 0 {
-        print_refusal(stdout, w.refusal);
+        println!(page; "E {}", w.refusal);
         return;
     }
-    write_all(stdout, &output[..w.octets]);
-}
-
-// Whether one octet more can be read from standard input.
-fn goes_on(stdin: Stdin) -> bool {
-    let mut next = [0u8; 1];
-    read_some(stdin, &mut next) > 0
-}
-
-// Reads the input, and copies it if it ends within the buffer.
-fn run(stdin: Stdin, stdout: Stdout, buffer: &mut [u8], output: &mut [u8]) {
-    let n = read_full(stdin, buffer);
-    if n == buffer.len() && goes_on(stdin) {
-        print_refusal(stdout, 8);
-        return;
-    }
-    copy(stdout, &buffer[..n], output);
+    page.put_all(&output[..w.octets]);
 }
 
 fn main(rt: HostRuntime) {
-    let mut buffer = io::large_buffer();
-    let mut output = io::large_buffer();
-    run(rt.stdin(), rt.stdout(), &mut buffer, &mut output);
+    // An octet more than the longest file, so that a longer one shows.
+    let mut buffer = zeros::<65537>();
+    let mut output = zeros::<65536>();
+    let mut printed = zeros::<65536>();
+    let mut page = Page::new(rt.stdout(), &mut printed);
+    let n = streams::read_full(rt.stdin(), &mut buffer);
+    copy(&mut page, &buffer[..n], &mut output);
+    page.flush();
 }

@@ -1,5 +1,5 @@
 // Files that arguments name, read to their end or until the buffer is full.
-ghost use Rattle.std.specs.Prelude.{◌≤◌, length};
+ghost use Rattle.std.specs.Prelude.{◌≤◌, length, IfOk};
 
 use crate::words::report_unreadable;
 use std::env::Env;
@@ -7,78 +7,34 @@ use std::fs::{self, File};
 use std::io::Read;
 use std::str;
 
-// Whether every read worked, and how many octets of the file are at the start of the buffer.
+// A file that cannot be read.
 #[derive(Clone, Copy)]
-pub struct Taken {
-    pub works: bool,
-    pub count: usize,
-}
+pub struct Unreadable;
 
-// Reads an open file. A read that fails is told apart from the end of the file: a folder can be opened, and its first read fails.
-fn read_open(mut open: File, file: &mut [u8]) -> Taken
-    ensures { result.count ≤ length file.new }
+// Reads an open file, and answers how many octets it has or the buffer holds: a slice of the buffer could not stand beside it in the clause. A read that
+// fails is told apart from the end of the file, which `streams` does not: a folder can be opened, and its first read fails.
+fn read_open(mut open: File, file: &mut [u8]) -> Result<usize, Unreadable>
+    ensures { IfOk result (λ count. count ≤ length file.new) }
 {
+    // How far a read comes is known only behind it, so no range has the places.
     let mut done: usize = 0;
     while done < file.len() {
         match open.read(&mut file[done..]) {
-            Ok(more) => {
-                if more == 0 {
-                    return Taken {
-                        works: true,
-                        count: done,
-                    };
-                }
-                done += more;
-            }
-            Err(_) => {
-                return Taken {
-                    works: false,
-                    count: done,
-                };
-            }
+            Ok(0) => return Ok(done),
+            Ok(more) => done += more,
+            Err(_) => return Err(Unreadable),
         }
     }
-    Taken {
-        works: true,
-        count: done,
-    }
-}
-
-fn unread() -> Taken
-    ensures { result.count ≤ 0 }
-{
-    Taken {
-        works: false,
-        count: 0,
-    }
-}
-
-fn read_path(rt: &HostRuntime, path: &str, file: &mut [u8]) -> Taken
-    ensures { result.count ≤ length file.new }
-{
-    match fs::open(rt, path) {
-        Ok(open) => read_open(open, file),
-        Err(_) => unread(),
-    }
+    Ok(done)
 }
 
 // A path is text in UTF-8.
-fn read_named(rt: &HostRuntime, path: &[u8], file: &mut [u8]) -> Taken
-    ensures { result.count ≤ length file.new }
+fn read_named(rt: &HostRuntime, path: &[u8], file: &mut [u8]) -> Result<usize, Unreadable>
+    ensures { IfOk result (λ count. count ≤ length file.new) }
 {
-    match str::from_utf8(path) {
-        Ok(text) => read_path(rt, text, file),
-        Err(_) => unread(),
-    }
-}
-
-fn argument(rt: &HostRuntime, i: usize, path: &mut [u8]) -> usize
-    ensures { result ≤ length path.new }
-{
-    match rt.arg(i, path) {
-        Ok(n) => n,
-        Err(_) => 0,
-    }
+    let text = str::from_utf8(path).map_err(|_| Unreadable)?;
+    let open = fs::open(rt, text).map_err(|_| Unreadable)?;
+    read_open(open, file)
 }
 
 // Whether there is an argument `i`.
@@ -87,13 +43,19 @@ pub fn is_given(rt: &HostRuntime, i: usize, path: &mut [u8]) -> bool {
 }
 
 // Reads the file that argument `i` names, or reports that it cannot be read.
-pub fn read_argument(rt: &HostRuntime, i: usize, path: &mut [u8], file: &mut [u8]) -> Taken
-    ensures { result.count ≤ length file.new }
+pub fn read_argument(
+    rt: &HostRuntime,
+    i: usize,
+    path: &mut [u8],
+    file: &mut [u8],
+) -> Result<usize, Unreadable>
+    ensures { IfOk result (λ count. count ≤ length file.new) }
 {
-    let n = argument(rt, i, path);
-    let taken = read_named(rt, &path[..n], file);
-    if !taken.works {
-        report_unreadable(rt.stderr(), &path[..n]);
+    let n = rt.arg(i, path).unwrap_or(0);
+    let read = read_named(rt, &path[..n], file);
+    if read.is_err() {
+        // Nothing is left to do where standard error cannot be written.
+        let _ = report_unreadable(rt.stderr(), &path[..n]);
     }
-    taken
+    read
 }

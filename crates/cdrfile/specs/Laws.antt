@@ -1,13 +1,11 @@
 -- Laws of a file's octets: their number, and that writing the pieces one behind another makes the file. Assumes nothing.
-use Rattle.std.specs.Prelude.{◌≡◌, true, List, [], ◌∷◌, ◌++◌, ℕ, ◌+◌, ◌≤◌, length}
-use Rattle.std.proofs.Common.{sym, ap, ◌∙◌, append_assoc, arith, length-append, eq-eqb, ne_eqb}
+use Rattle.std.specs.Prelude.{◌≡◌, true, List, [], ◌∷◌, ◌++◌, ℕ, ◌+◌, ◌≤◌, ◌<◌, length, set}
+use Rattle.std.proofs.Common.{sym, ap, ◌∙◌, append_assoc, append-nil, arith, length-append, drop_of_length-le, eq-eqb, ne_eqb}
 use Rattle.std.proofs.Math.Decide.{ℕ_discrete}
-use Rattle.octets.specs.Number.{be, octets_at}
-use Rattle.octets.specs.Splice.{splice, splice_then}
-use Rattle.timestamp.specs.Timestamp.{word_of}
+use Rattle.octets.specs.Number.{be}
+use Rattle.octets.specs.Splice.{splice, splice_then, set_then}
 use Rattle.record.specs.declared.Release.{Release}
-use Rattle.record.specs.Release.{release_octet, extension_octets}
-use Rattle.cdrfile.specs.declared.Fixed.{Fixed}
+use Rattle.record.specs.Release.{extension_octets}
 use Rattle.cdrfile.specs.declared.Header.{Header}
 use Rattle.cdrfile.specs.Statement.{agrees, stated_none}
 use Rattle.cdrfile.specs.File.{private_octets, header_length, fixed_octets, file_octets}
@@ -35,6 +33,17 @@ pub laid_more : {start out out' ys : List ℕ} (n : ℕ) (zs : List ℕ) → Lai
 laid_more {start} {out} {out'} {ys} n zs l e p =
     record { is = e ∙ ap (λ (o : List ℕ). splice o n zs) l.is ∙ splice_then start 0 ys (omega arith) zs n (omega (arith, p)) }
 
+-- and so does an octet that is stored behind
+pub laid_octet : {start out out' ys : List ℕ} (n a : ℕ) → Laid start out ys → out' ≡ set out n a → n ≡ length ys → length ys < length start → Laid start out' (ys ++ (a ∷ []))
+laid_octet {start} {out} {out'} {ys} n a l e p h =
+    record { is = e ∙ ap (λ (o : List ℕ). set o n a) l.is ∙ set_then start 0 ys n a (omega arith) (omega (arith, p)) }
+
+-- what is written over the whole is what was written
+pub laid_whole : {start out ys : List ℕ} → Laid start out ys → length start ≡ length ys → out ≡ ys
+unfolding splice
+laid_whole {start} {out} {ys} l n =
+    l.is ∙ ap (λ (zs : List ℕ). ys ++ zs) (drop_of_length-le start {i = 0 + length ys} (omega (arith, n))) ∙ append-nil ys
+
 -- the pieces one behind another
 pub pieces : (h : Header) (filter private body : List ℕ) (count : ℕ) {fixed : List ℕ}
     → fixed ≡ fixed_octets (header_length h filter private + length body) (header_length h filter private) count (length filter) h
@@ -46,30 +55,6 @@ pieces h filter private body count {fixed} e =
     ∙ append_assoc (fixed ++ filter) (private_octets h.statement private) (extension_octets h.high ++ (extension_octets h.low ++ body))
     ∙ append_assoc fixed filter (private_octets h.statement private ++ (extension_octets h.high ++ (extension_octets h.low ++ body)))
     ∙ ap (λ (l : List ℕ). l ++ (filter ++ (private_octets h.statement private ++ (extension_octets h.high ++ (extension_octets h.low ++ body))))) e
-
--- octets 1 to 50 from the numbers that the code works out first
-abbrev pub fixed_from : Fixed → Header → List ℕ
-fixed_from n h =
-    be 4 n.length
-    ++ (be 4 n.header
-    ++ (n.high
-    ∷ (n.low
-    ∷ (be 4 n.opened
-    ++ (be 4 n.appended
-    ++ (be 4 n.count
-    ++ (be 4 h.sequence
-    ++ (h.reason
-    ∷ (octets_at 20 h.address 0
-    ++ (h.lost
-    ∷ be 2 n.filter))))))))))
-
--- they are the definition's, where the numbers are those of the fields
-pub fixed_from_lem : (total header count filter : ℕ) (h : Header) (high low opened appended : ℕ) → high ≡ release_octet h.high → low ≡ release_octet h.low
-    → opened ≡ word_of h.opened → appended ≡ word_of h.appended
-    → fixed_from (record { length = total; header = header; high = high; low = low; opened = opened; appended = appended; count = count; filter = filter }) h ≡ fixed_octets total header count filter h
-unfolding fixed_octets
-fixed_from_lem total header count filter h high low opened appended a b c d =
-    λ i. fixed_from (record { length = total; header = header; high = a i; low = b i; opened = c i; appended = d i; count = count; filter = filter }) h
 
 -- The cases of the two extensions.
 module _ (statement : ℕ) (p : List ℕ) where

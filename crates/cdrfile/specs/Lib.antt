@@ -2,4 +2,5 @@ pub mod Statement
 pub mod File
 pub mod Order
 pub mod Laws
+pub mod Fixed
 pub mod Needs

@@ -2,8 +2,8 @@
 -- what a right file asks of them is shown in roundtrip (Ordered.antt). Assumes nothing.
 use Rattle.std.specs.Prelude.{Bool, cond, not, ◌&&◌, eqb, ltb}
 use Rattle.record.specs.declared.Release.{Release}
-use Rattle.record.specs.declared.Tallied.{Tallied}
 use Rattle.record.specs.Release.{rank}
+use Rattle.record.specs.Walk.{Tallied}
 
 -- of what a walk found: with records high or low is not the greatest or least; without any low is above high
 abbrev pub wrong_order : Release → Release → Tallied → Bool

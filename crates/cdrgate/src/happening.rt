@@ -1,60 +1,66 @@
-// The script's events on the manager, each on its octets and on the words, the store and the output that are lent.
-ghost use Rattle.std.specs.Prelude.{◌≤◌};
-
+// The script's events on the manager, with so much of the store and of the output lent as the run says, and the lines that are printed for them.
+use batch::Answers;
 use events::Answer;
-use gatescript::{Event, Receipt};
-use textlines::part;
+use gateanswers::{print_answer, print_files, print_packet};
+use gatescript::{Event, command_of};
+use gatesteps::Run;
+use textlines::{Page, Wrong};
 
-fn receive(
-    words: &mut [u32],
-    r: Receipt,
-    octets: &[u8],
-    store: &mut [u8],
-    output: &mut [u8],
-) -> Answer {
-    let key = part(octets, 0, r.key);
-    let body = part(octets, r.key, r.body);
-    receiving::receive(words, store, output, r.time, r.arrival, key, body)
+// The lines of an answer, whose files begin the output.
+fn print_answered(page: &mut Page<'_>, answer: Answer, output: &[u8]) {
+    print_answer(page, answer);
+    print_files(page, output, answer.files);
 }
 
-// What the manager answers to an event: to none, or to a packet, with neither a refusal nor an outcome.
-fn answer_of(
-    words: &mut [u32],
-    event: Event,
-    octets: &[u8],
-    store: &mut [u8],
-    output: &mut [u8],
-) -> Answer {
-    match event {
-        Event::Nothing => events::refuse(0, 0),
+// The lines of a packet: what came of it, and then for each record that was tried its answer and the files that it closed. C reads
+// these answers: one of no record has neither a refusal nor an outcome, and is no Option.
+fn print_tried(page: &mut Page<'_>, tried: Answers, output: &[u8]) {
+    print_packet(page, tried.refusal, tried.accepted);
+    let mut rest = output;
+    for answer in tried.answers {
+        if answer.refusal == 0 && answer.outcome == 0 {
+            return;
+        }
+        print_answered(page, answer, rest);
+        rest = rest.get(answer.octets..).unwrap_or_default();
+    }
+}
+
+// Has the event answered by the manager, or the packet taken, and what came of it printed.
+fn happen(event: Event<'_>, run: &mut Run<'_>, page: &mut Page<'_>) {
+    // The run lends no more than there is, which `min` says here.
+    let stored = run.stored.min(run.store.len());
+    let width = run.width.min(run.output.len());
+    let words = &mut *run.words;
+    let store = &mut run.store[..stored];
+    let output = &mut run.output[..width];
+    let answer = match event {
         Event::Open(time, route) => manager::open(words, store, output, time, route),
         Event::Close(time, route, reason) => {
             manager::close(words, store, output, time, route, reason)
         }
         Event::Tick(time) => manager::tick(words, store, output, time),
-        Event::Receive(receipt) => receive(words, receipt, octets, store, output),
-        Event::Packet(n) => events::refuse(0, 0),
+        Event::Receive(r) => {
+            receiving::receive(words, store, output, r.time, r.arrival, r.key, r.body)
+        }
+        Event::Packet(packet) => {
+            let tried = batch::take(words, store, output, packet);
+            return print_tried(page, tried, output);
+        }
+    };
+    print_answered(page, answer, output);
+}
+
+// Carries out a line, whose octets, if it has any, go to the start of `octets`.
+pub fn answer(
+    line: &[u8],
+    octets: &mut [u8],
+    run: &mut Run<'_>,
+    page: &mut Page<'_>,
+) -> Result<(), Wrong> {
+    let command = command_of(line, octets).ok_or(Wrong)?;
+    if let Some(event) = run.carry_out(command, page)? {
+        happen(event, run, page);
     }
-}
-
-// So many octets as are asked for, if there are so many.
-pub fn least(asked: usize, octets: usize) -> usize
-    ensures { result ≤ octets }
-{
-    if asked < octets { asked } else { octets }
-}
-
-// The same, with so much of the store and of the output lent. The steps of a run ask for no more than there is.
-pub fn lent_answer_of(
-    words: &mut [u32],
-    event: Event,
-    octets: &[u8],
-    store: &mut [u8],
-    n: usize,
-    output: &mut [u8],
-    w: usize,
-) -> Answer {
-    let k = least(n, store.len());
-    let m = least(w, output.len());
-    answer_of(words, event, octets, &mut store[..k], &mut output[..m])
+    Ok(())
 }

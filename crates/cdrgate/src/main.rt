@@ -2,26 +2,23 @@
 #![tactic(auto)]
 
 mod happening;
-mod packet_turns;
-mod replay;
+
+use gatesteps::Run;
+use textlines::{Lines, Page, zeros};
 
 fn main(rt: HostRuntime) {
-    let mut input = io::large_buffer();
-    let mut line = gatescript::line();
-    let mut octets = gatescript::half_mebibyte();
+    let mut input = zeros::<65536>();
+    let mut line = zeros::<141000>();
+    let mut octets = zeros::<524288>();
     let mut words = [0u32; 360];
-    let mut store = gatescript::half_mebibyte();
-    let mut output = gatescript::half_mebibyte();
-    let mut page = io::large_buffer();
-    replay::replay(
-        rt.stdin(),
-        rt.stdout(),
-        &mut input,
-        &mut line,
-        &mut octets,
-        &mut words,
-        &mut store,
-        &mut output,
-        &mut page,
-    );
+    let mut store = zeros::<524288>();
+    let mut output = zeros::<524288>();
+    let mut printed = zeros::<65536>();
+    let mut lines = Lines::new(rt.stdin(), &mut input, &mut line);
+    let mut run = Run::new(&mut words, &mut store, &mut output);
+    let mut page = Page::new(rt.stdout(), &mut printed);
+    let end = lines.answer_all(&mut page, |line, page| {
+        happening::answer(line, &mut octets, &mut run, page)
+    });
+    page.finish(end, lines.number());
 }

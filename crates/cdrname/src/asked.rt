@@ -1,86 +1,62 @@
 // What a line asks for.
 use filename::Fields;
-use textlines::{Word, number_at, part, word_at};
+use textlines::Words;
 
-// A name to be written: its fields, where the words of its node identifier and private part stand, and the output's octets.
+// A name to be written: its fields, its node identifier and its private part, and the output's octets.
 #[derive(Clone, Copy)]
-pub struct Order {
+pub struct Order<'a> {
     pub fields: Fields,
-    pub node: Word,
-    pub private: Word,
-    pub room: u32,
+    pub node: &'a [u8],
+    pub private: &'a [u8],
+    pub room: usize,
 }
 
-// A name to be read, which is all of the line behind its first two octets, or one to be written. Any other line is wrong.
+// A name to be read, which is all of the line behind its first two octets, or one to be written.
 #[derive(Clone, Copy)]
-pub enum Asked {
-    Read,
-    Write(Order),
-    Wrong,
+pub enum Asked<'a> {
+    Read(&'a [u8]),
+    Write(Order<'a>),
 }
 
-// The words of a `W`, one behind another. Behind a wrong word all are wrong, and the line does not end with the last.
-fn order_of(line: &[u8]) -> Asked {
-    let node = word_at(line, 1);
-    let count = number_at(line, node.next);
-    let year = number_at(line, count.next);
-    let month = number_at(line, year.next);
-    let day = number_at(line, month.next);
-    let hour = number_at(line, day.next);
-    let minute = number_at(line, hour.next);
-    let sign = number_at(line, minute.next);
-    let dev_hour = number_at(line, sign.next);
-    let dev_minute = number_at(line, dev_hour.next);
-    let has = number_at(line, dev_minute.next);
-    let private = word_at(line, has.next);
-    let room = number_at(line, private.next);
-    if room.next != line.len() {
-        return Asked::Wrong;
+// The next word, of which `-` stands for no octets.
+fn octets_of<'a>(words: &mut Words<'a>) -> Option<&'a [u8]> {
+    match words.word()? {
+        b"-" => Some(&[]),
+        word => Some(word),
     }
-    Asked::Write(Order {
-        fields: Fields {
-            count: count.value,
-            year: year.value,
-            month: month.value,
-            day: day.value,
-            hour: hour.value,
-            minute: minute.value,
-            sign: sign.value,
-            dev_hour: dev_hour.value,
-            dev_minute: dev_minute.value,
-            has: has.value,
-        },
-        node: node,
-        private: private,
-        room: room.value,
+}
+
+// The words of a `W`, one behind another.
+fn order_of<'a>(mut words: Words<'a>) -> Option<Order<'a>> {
+    let node = octets_of(&mut words)?;
+    let fields = Fields {
+        count: words.number()?,
+        year: words.number()?,
+        month: words.number()?,
+        day: words.number()?,
+        hour: words.number()?,
+        minute: words.number()?,
+        sign: words.number()?,
+        dev_hour: words.number()?,
+        dev_minute: words.number()?,
+        has: words.number()?,
+    };
+    let private = octets_of(&mut words)?;
+    let room = words.number()? as usize;
+    words.end()?;
+    Some(Order {
+        fields,
+        node,
+        private,
+        room,
     })
 }
 
-// What a line asks for, by its first two octets.
-pub fn asked_by(line: &[u8]) -> Asked {
-    if line.len() < 2 {
-        return Asked::Wrong;
+// What a line asks for, or none where it is wrong.
+pub fn asked_by(line: &[u8]) -> Option<Asked<'_>> {
+    match line {
+        [b'N', b' ', name @ ..] => Some(Asked::Read(name)),
+        [b'W', words @ ..] => Some(Asked::Write(order_of(Words::new(words))?)),
+        _ => None,
     }
-    if line[1] != b' ' {
-        return Asked::Wrong;
-    }
-    match line[0] {
-        b'N' => Asked::Read,
-        b'W' => order_of(line),
-        _ => Asked::Wrong,
-    }
-}
-
-// The octets of a word; `-` stands for none.
-pub fn octets_of(line: &[u8], w: Word) -> &[u8] {
-    if w.next < w.start {
-        return part(line, 0, 0);
-    }
-    let octets = part(line, w.start, w.next - w.start);
-    if octets.len() == 1 {
-        if octets[0] == b'-' {
-            return part(line, 0, 0);
-        }
-    }
-    octets
 }

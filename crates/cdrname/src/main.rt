@@ -3,11 +3,15 @@
 
 mod answers;
 mod asked;
-mod run;
+
+use textlines::{Lines, Page, zeros};
 
 fn main(rt: HostRuntime) {
-    let mut input = io::large_buffer();
-    let mut line = [0u8; 4096];
-    let mut page = io::large_buffer();
-    run::answer_all(rt.stdin(), rt.stdout(), &mut input, &mut line, &mut page);
+    let mut input = zeros::<65536>();
+    let mut line = zeros::<4096>();
+    let mut output = zeros::<65536>();
+    let mut lines = Lines::new(rt.stdin(), &mut input, &mut line);
+    let mut page = Page::new(rt.stdout(), &mut output);
+    let end = lines.answer_all(&mut page, answers::answer);
+    page.finish(end, lines.number());
 }

@@ -5,7 +5,7 @@ ghost use Rattle.std.specs.Prelude.{◌≡◌};
 ghost use Rattle.counts.specs.Counts.{count_octets, no_counts, counts_in};
 
 // What private octets say: whether they are such an extension, and if so the known losses of the file's time and the unrouted
-// records. The field `there` tells an extension that counts none from what is no such extension.
+// records. C reads this struct: the field `there`, and not an Option, tells an extension that counts none from what is no such extension.
 #[repr(C)]
 #[derive(Clone, Copy)]
 pub struct Counts {
@@ -26,22 +26,17 @@ fn no_counts() -> Counts
 }
 
 // The counts in any private octets, as the reader hands them back.
+#[tactic(auto, unfolding(crate::specs::Counts::counts_in))]
 pub fn read(private: &[u8]) -> Counts
     ensures { result ≡ counts_in private.now }
 {
-    if private.len() != 9 {
+    if private.len() != 9 || private[0] != 1 {
         return no_counts();
     }
-    let kind = private[0];
-    if kind != 1 {
-        return no_counts();
-    }
-    let losses = octets::num32(private, 1);
-    let unrouted = octets::num32(private, 5);
     Counts {
         there: true,
-        losses: losses,
-        unrouted: unrouted,
+        losses: octets::num::<4>(private, 1),
+        unrouted: octets::num::<4>(private, 5),
     }
 }
 
@@ -50,9 +45,7 @@ pub fn octets_of(losses: u32, unrouted: u32) -> [u8; 9]
     ensures { result ≡ count_octets losses unrouted }
 {
     let mut nine = [1u8; 9];
-    let known = octets::be32(losses);
-    let other = octets::be32(unrouted);
-    octets::copy(&mut nine, 1, &known);
-    octets::copy(&mut nine, 5, &other);
+    nine[1..5].copy_from_slice(&losses.to_be_bytes());
+    nine[5..].copy_from_slice(&unrouted.to_be_bytes());
     nine
 }

@@ -3,129 +3,96 @@
 // The starred rows are shown by evaluation in specs/EdgeTable.
 #![tactic(auto)]
 
-ghost use Rattle.std.specs.Prelude.{◌≡◌, ◌<◌, length};
+ghost use Rattle.std.specs.Prelude.{◌<◌};
 
-use std::io::Stdout;
-use streams::{write_all, write_decimal, write_hex};
-
-// Writes a text and a number behind it.
-fn field(stdout: Stdout, text: &[u8], n: usize) {
-    write_all(stdout, text);
-    write_decimal(stdout, n as u64);
-}
-
-fn end(stdout: Stdout) {
-    write_all(stdout, b"\n");
-}
+use textlines::Page;
 
 // The rest of a line: octets in hexadecimal.
-fn hexadecimal(stdout: Stdout, octets: &[u8]) {
-    write_all(stdout, b" ");
-    let mut i: usize = 0;
-    while i < octets.len() {
-        write_hex(stdout, octets[i]);
-        i += 1;
+fn hexadecimal(page: &mut Page<'_>, octets: &[u8]) {
+    page.print(" ");
+    for octet in octets {
+        print!(page; "{octet:02x}");
     }
-    end(stdout);
+    println!(page);
 }
 
-// An offset with its sign, where 1,439 was added to it.
-fn offset(stdout: Stdout, bias: u32) {
-    if bias < 1439 {
-        field(stdout, b" offset -", (1439 - bias) as usize);
-    } else {
-        field(stdout, b" offset +", (bias - 1439) as usize);
-    }
-}
-
-// The refusal and the octets of a timestamp. The offset is given with 1,439 added.
-fn stamp(stdout: Stdout, minutes: u32, bias: u32) {
+// The refusal and the octets of a timestamp. The offset is given with 1,439 added. C reads what this and the other calls answer: the refusal is a number.
+fn stamp(page: &mut Page<'_>, minutes: u32, bias: u32) {
     let s = timestamp::stamp(minutes, bias);
-    let octets = s.octets;
-    field(stdout, b"minute ", minutes as usize);
-    offset(stdout, bias);
-    field(stdout, b": ", s.refusal as usize);
-    hexadecimal(stdout, &octets);
+    let sign = if bias < 1439 { '-' } else { '+' };
+    let offset = bias.abs_diff(1439);
+    print!(page; "minute {minutes} offset {sign}{offset}: {}", s.refusal);
+    hexadecimal(page, &s.octets);
 }
 
 // The table's four, the days around a leap day, and 000's two examples of times (6.2).
-fn stamps(stdout: Stdout) {
-    stamp(stdout, 0, 1439);
-    stamp(stdout, 0, 1439 - 60);
-    stamp(stdout, 84960, 1439);
-    stamp(stdout, 8547030, 1439 + 120);
-    stamp(stdout, 84959, 1439);
-    stamp(stdout, 86399, 1439);
-    stamp(stdout, 86400, 1439);
-    stamp(stdout, 611999, 1439 + 1);
-    stamp(stdout, 50577030, 1439 + 90);
-    stamp(stdout, 2761755, 1439 + 120);
-    stamp(stdout, 3146670, 1439 - 690);
+fn stamps(page: &mut Page<'_>) {
+    stamp(page, 0, 1439);
+    stamp(page, 0, 1439 - 60);
+    stamp(page, 84960, 1439);
+    stamp(page, 8547030, 1439 + 120);
+    stamp(page, 84959, 1439);
+    stamp(page, 86399, 1439);
+    stamp(page, 86400, 1439);
+    stamp(page, 611999, 1439 + 1);
+    stamp(page, 50577030, 1439 + 90);
+    stamp(page, 2761755, 1439 + 120);
+    stamp(page, 3146670, 1439 - 690);
 }
 
 // The ends of time and offset, and what lies beyond them: 4 for the minute, 2 for the offset, 4 for both.
-fn far_stamps(stdout: Stdout) {
-    stamp(stdout, 0, 0);
-    stamp(stdout, 0, 2878);
-    stamp(stdout, 52595999, 0);
-    stamp(stdout, 52595999, 1439);
-    stamp(stdout, 52595999, 2878);
-    stamp(stdout, 52596000, 1439);
-    stamp(stdout, 4294967295, 1439);
-    stamp(stdout, 0, 2879);
-    stamp(stdout, 0, 4294967295);
-    stamp(stdout, 52596000, 2879);
+fn far_stamps(page: &mut Page<'_>) {
+    stamp(page, 0, 0);
+    stamp(page, 0, 2878);
+    stamp(page, 52595999, 0);
+    stamp(page, 52595999, 1439);
+    stamp(page, 52595999, 2878);
+    stamp(page, 52596000, 1439);
+    stamp(page, 4294967295, 1439);
+    stamp(page, 0, 2879);
+    stamp(page, 0, 4294967295);
+    stamp(page, 52596000, 2879);
 }
 
 // The lost indicator of so many known losses, without an unrouted record and with one.
-fn indicator(stdout: Stdout, losses: u32) {
-    field(stdout, b"losses ", losses as usize);
-    field(stdout, b": ", state::lost_indicator(losses, false) as usize);
-    field(
-        stdout,
-        b", noted ",
-        state::lost_indicator(losses, true) as usize,
-    );
-    end(stdout);
+fn indicator(page: &mut Page<'_>, losses: u32) {
+    let known = state::lost_indicator(losses, false);
+    let noted = state::lost_indicator(losses, true);
+    println!(page; "losses {losses}: {known}, noted {noted}");
 }
 
 // The table's rows, and the numbers on either side of where the indicator stops counting.
-fn indicators(stdout: Stdout) {
-    indicator(stdout, 0);
-    indicator(stdout, 1);
-    indicator(stdout, 3);
-    indicator(stdout, 126);
-    indicator(stdout, 127);
-    indicator(stdout, 128);
-    indicator(stdout, 200);
-    indicator(stdout, 40000);
-    indicator(stdout, 4294967295);
+fn indicators(page: &mut Page<'_>) {
+    indicator(page, 0);
+    indicator(page, 1);
+    indicator(page, 3);
+    indicator(page, 126);
+    indicator(page, 127);
+    indicator(page, 128);
+    indicator(page, 200);
+    indicator(page, 40000);
+    indicator(page, 4294967295);
 }
 
 // What private octets say of losses: whether they are the counts, and the two.
-fn counts_in(stdout: Stdout, private: &[u8]) {
+fn counts_in(page: &mut Page<'_>, private: &[u8]) {
     let c = counts::read(private);
-    field(stdout, b"private octets ", private.len());
-    field(stdout, b": ", c.there as usize);
-    field(stdout, b", losses ", c.losses as usize);
-    field(stdout, b", unrouted ", c.unrouted as usize);
-    end(stdout);
+    print!(page; "private octets {}: {}", private.len(), c.there as u8);
+    println!(page; ", losses {}, unrouted {}", c.losses, c.unrouted);
 }
 
 // Counts with 40,000 losses; none; and what is no such extension: one octet too few, one too many, another kind, nothing.
-fn counts(stdout: Stdout) {
-    counts_in(stdout, b"\x01\x00\x00\x9C\x40\x00\x00\x00\x03");
-    counts_in(stdout, b"\x01\x00\x00\x00\x00\x00\x00\x00\x00");
-    counts_in(stdout, b"\x01\x00\x00\x9C\x40\x00\x00\x00");
-    counts_in(stdout, b"\x01\x00\x00\x9C\x40\x00\x00\x00\x03\x00");
-    counts_in(stdout, b"\x00\x00\x00\x9C\x40\x00\x00\x00\x03");
-    counts_in(stdout, b"");
+fn counts(page: &mut Page<'_>) {
+    counts_in(page, b"\x01\x00\x00\x9C\x40\x00\x00\x00\x03");
+    counts_in(page, b"\x01\x00\x00\x00\x00\x00\x00\x00\x00");
+    counts_in(page, b"\x01\x00\x00\x9C\x40\x00\x00\x00");
+    counts_in(page, b"\x01\x00\x00\x9C\x40\x00\x00\x00\x03\x00");
+    counts_in(page, b"\x00\x00\x00\x9C\x40\x00\x00\x00\x03");
+    counts_in(page, b"");
 }
 
 // The table's file, as document 01 has it.
-fn table_file() -> [u8; 56]
-    ensures { 56 ≡ length result }
-{
+fn table_file() -> [u8; 56] {
     [
         0x00, 0x00, 0x00, 0x38, 0x00, 0x00, 0x00, 0x32, 0x83, 0x83, 0x10, 0x80, 0x08, 0x00, 0x10,
         0x80, 0x08, 0x00, 0x00, 0x00, 0x00, 0x01, 0x00, 0x00, 0x00, 0x07, 0x04, 0xFF, 0xFF, 0xFF,
@@ -135,162 +102,151 @@ fn table_file() -> [u8; 56]
 }
 
 // The refusal of a file, beside the one that is expected.
-fn verdict(stdout: Stdout, file: &[u8], expected: u8) {
+fn verdict(page: &mut Page<'_>, file: &[u8], expected: u8) {
     let c = reader::read(file);
-    field(stdout, b": ", c.refusal as usize);
-    field(stdout, b", expected ", expected as usize);
-    end(stdout);
+    println!(page; ": {}, expected {expected}", c.refusal);
 }
 
 // The table's file with the octet at an index, counted from 0, changed.
-fn changed(stdout: Stdout, at: usize, octet: u8, expected: u8)
+fn changed(page: &mut Page<'_>, at: usize, octet: u8, expected: u8)
     requires { at < 56 }
 {
     let mut file = table_file();
     file[at] = octet;
-    field(stdout, b"octet ", at);
-    field(stdout, b" is ", octet as usize);
-    verdict(stdout, &file, expected);
+    print!(page; "octet {at} is {octet}");
+    verdict(page, &file, expected);
 }
 
 // The table's file, cut to so many octets.
-fn cut(stdout: Stdout, octets: usize, expected: u8)
+fn cut(page: &mut Page<'_>, octets: usize, expected: u8)
     requires { octets < 56 }
 {
     let file = table_file();
-    field(stdout, b"cut to ", octets);
-    verdict(stdout, &file[..octets], expected);
+    print!(page; "cut to {octets}");
+    verdict(page, &file[..octets], expected);
 }
 
 // Damage by cutting, and to lengths and timestamps: 8, 9 and 10.
-fn damaged_headers(stdout: Stdout) {
-    cut(stdout, 0, 8);
-    cut(stdout, 49, 8);
-    cut(stdout, 55, 8);
-    changed(stdout, 3, 57, 8);
-    changed(stdout, 7, 49, 9);
-    changed(stdout, 7, 51, 9);
-    changed(stdout, 7, 57, 9);
-    changed(stdout, 49, 1, 9);
-    changed(stdout, 10, 208, 10);
-    changed(stdout, 14, 0, 10);
-    changed(stdout, 13, 60, 10);
+fn damaged_headers(page: &mut Page<'_>) {
+    cut(page, 0, 8);
+    cut(page, 49, 8);
+    cut(page, 55, 8);
+    changed(page, 3, 57, 8);
+    changed(page, 7, 49, 9);
+    changed(page, 7, 51, 9);
+    changed(page, 7, 57, 9);
+    changed(page, 49, 1, 9);
+    changed(page, 10, 208, 10);
+    changed(page, 14, 0, 10);
+    changed(page, 13, 60, 10);
 }
 
 // Damage to records, count, high and low: 11, 12 and 13. What is kept as read is no damage.
-fn damaged_records(stdout: Stdout) {
-    changed(stdout, 50, 255, 11);
-    changed(stdout, 51, 1, 11);
-    changed(stdout, 51, 3, 11);
-    changed(stdout, 52, 227, 11);
-    changed(stdout, 21, 0, 12);
-    changed(stdout, 21, 2, 12);
-    changed(stdout, 8, 132, 13);
-    changed(stdout, 9, 130, 13);
-    changed(stdout, 52, 132, 13);
-    changed(stdout, 26, 200, 0);
-    changed(stdout, 47, 255, 0);
-    changed(stdout, 27, 0, 0);
-    changed(stdout, 53, 255, 0);
+fn damaged_records(page: &mut Page<'_>) {
+    changed(page, 50, 255, 11);
+    changed(page, 51, 1, 11);
+    changed(page, 51, 3, 11);
+    changed(page, 52, 227, 11);
+    changed(page, 21, 0, 12);
+    changed(page, 21, 2, 12);
+    changed(page, 8, 132, 13);
+    changed(page, 9, 130, 13);
+    changed(page, 52, 132, 13);
+    changed(page, 26, 200, 0);
+    changed(page, 47, 255, 0);
+    changed(page, 27, 0, 0);
+    changed(page, 53, 255, 0);
 }
 
 // A step over the file from any offset: the refusal, the octets of header and body.
-fn step(stdout: Stdout, file: &[u8], at: usize) {
+fn step(page: &mut Page<'_>, file: &[u8], at: usize) {
     let s = record::step_at(file, at);
-    field(stdout, b"step at ", at);
-    field(stdout, b": ", s.refusal as usize);
-    field(stdout, b" ", s.header);
-    field(stdout, b" ", s.body);
-    end(stdout);
+    println!(page; "step at {at}: {} {} {}", s.refusal, s.header, s.body);
 }
 
 // The file written again, with this statement and these private octets, to an output of so many octets: the refusal, the octets written
 // or needed, and the output.
-fn written(stdout: Stdout, file: &[u8], statement: u8, private: &[u8], output: &mut [u8]) {
+fn written(page: &mut Page<'_>, file: &[u8], statement: u8, private: &[u8], output: &mut [u8]) {
     let c = reader::read(file);
     let mut h = c.header;
     h.statement = statement;
     let filter = reader::part_of(file, c.filter);
     let records = reader::part_of(file, c.records);
     let w = writer::write(h, filter, private, records, output);
-    field(stdout, b"written to ", output.len());
-    field(stdout, b": ", w.refusal as usize);
-    field(stdout, b" ", w.octets);
-    hexadecimal(stdout, output);
+    print!(page; "written to {}: {} {}", output.len(), w.refusal, w.octets);
+    hexadecimal(page, output);
 }
 
-fn table_file_cases(stdout: Stdout) {
+fn table_file_cases(page: &mut Page<'_>) {
     let file = table_file();
     let c = reader::read(&file);
     let private = reader::part_of(&file, c.private);
-    step(stdout, &file, 50);
-    step(stdout, &file, 53);
-    step(stdout, &file, 56);
-    step(stdout, &file, 18446744073709551615);
+    step(page, &file, 50);
+    step(page, &file, 53);
+    step(page, &file, 56);
+    step(page, &file, 18446744073709551615);
     let mut long = [238u8; 58];
-    written(stdout, &file, 0, private, &mut long);
+    written(page, &file, 0, private, &mut long);
     let mut short = [238u8; 55];
-    written(stdout, &file, 0, private, &mut short);
+    written(page, &file, 0, private, &mut short);
 }
 
 // The file with the loss counts of document 02, ask 3, as the manager closes it: written, read, stepped over.
-fn counted_file_cases(stdout: Stdout) {
+fn counted_file_cases(page: &mut Page<'_>) {
     let file = table_file();
     let none = counts::octets_of(0, 0);
     let mut counted = [238u8; 67];
-    written(stdout, &file, 2, &none, &mut counted);
+    written(page, &file, 2, &none, &mut counted);
     let c = reader::read(&counted);
-    counts_in(stdout, reader::part_of(&counted, c.private));
-    step(stdout, &counted, 61);
+    counts_in(page, reader::part_of(&counted, c.private));
+    step(page, &counted, 61);
     let mut short = [238u8; 66];
-    written(stdout, &file, 2, &none, &mut short);
-}
-
-fn octet_field(stdout: Stdout, name: &[u8], n: u8) {
-    field(stdout, name, n as usize);
+    written(page, &file, 2, &none, &mut short);
 }
 
 // What a file's header states of its private extension, and the octets of that.
-fn stated(stdout: Stdout, file: &[u8]) {
+fn stated(page: &mut Page<'_>, file: &[u8]) {
     let c = reader::read(file);
-    field(stdout, b"read of ", file.len());
-    field(stdout, b": ", c.refusal as usize);
-    octet_field(stdout, b", statement ", c.header.statement);
-    field(stdout, b", private octets ", c.private.octets);
-    end(stdout);
+    print!(page; "read of {}: {}", file.len(), c.refusal);
+    println!(page;
+        ", statement {}, private octets {}",
+        c.header.statement, c.private.octets
+    );
 }
 
-fn contradicted(stdout: Stdout, file: &[u8], statement: u8, private: &[u8]) {
+fn contradicted(page: &mut Page<'_>, file: &[u8], statement: u8, private: &[u8]) {
     let mut output = [238u8; 60];
-    written(stdout, file, statement, private, &mut output);
+    written(page, file, statement, private, &mut output);
 }
 
 // The file without a private extension, with an empty one and with one of an octet (document 02, ask 5), and statements that their octets
 // contradict.
-fn extension_cases(stdout: Stdout) {
+fn extension_cases(page: &mut Page<'_>) {
     let file = table_file();
-    stated(stdout, &file);
+    stated(page, &file);
     let mut empty = [238u8; 58];
-    written(stdout, &file, 1, b"", &mut empty);
-    stated(stdout, &empty);
+    written(page, &file, 1, b"", &mut empty);
+    stated(page, &empty);
     let mut some = [238u8; 59];
-    written(stdout, &file, 2, b"\xAA", &mut some);
-    stated(stdout, &some);
-    contradicted(stdout, &file, 0, b"\xAA");
-    contradicted(stdout, &file, 1, b"\xAA");
-    contradicted(stdout, &file, 2, b"");
-    contradicted(stdout, &file, 3, b"");
+    written(page, &file, 2, b"\xAA", &mut some);
+    stated(page, &some);
+    contradicted(page, &file, 0, b"\xAA");
+    contradicted(page, &file, 1, b"\xAA");
+    contradicted(page, &file, 2, b"");
+    contradicted(page, &file, 3, b"");
 }
 
 fn main(rt: HostRuntime) {
-    let stdout = rt.stdout();
-    stamps(stdout);
-    far_stamps(stdout);
-    indicators(stdout);
-    counts(stdout);
-    damaged_headers(stdout);
-    damaged_records(stdout);
-    table_file_cases(stdout);
-    counted_file_cases(stdout);
-    extension_cases(stdout);
+    let mut printed = [0u8; 4096];
+    let mut page = Page::new(rt.stdout(), &mut printed);
+    stamps(&mut page);
+    far_stamps(&mut page);
+    indicators(&mut page);
+    counts(&mut page);
+    damaged_headers(&mut page);
+    damaged_records(&mut page);
+    table_file_cases(&mut page);
+    counted_file_cases(&mut page);
+    extension_cases(&mut page);
+    page.flush();
 }

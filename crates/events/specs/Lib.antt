@@ -1,10 +1,12 @@
 pub mod Met
 pub mod Rules
+pub mod Outcomes
 pub mod Events
 pub mod Receive
 pub mod Lent
 pub mod Ways
 pub mod Cases
+pub mod Answering
 pub mod Held
 pub mod Unchanged
 pub mod Work

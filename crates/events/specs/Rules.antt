@@ -8,7 +8,7 @@ use Rattle.state.specs.declared.RouteSettings.{RouteSettings}
 use Rattle.state.specs.declared.OpenFile.{OpenFile}
 use Rattle.state.specs.declared.Route.{Route}
 use Rattle.state.specs.Manager.{Manager}
-use Rattle.state.specs.declared.Routed.{Routed}
+use Rattle.state.specs.Routing.{Routed}
 use Rattle.state.specs.Manager.{no_file}
 use Rattle.state.specs.Size.{header_size}
 use Rattle.state.specs.Bounds.{same_release}

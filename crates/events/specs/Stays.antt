@@ -14,7 +14,7 @@ use Rattle.record.specs.Record.{record_octets}
 use Rattle.record.specs.HeaderOctets.{record_length}
 use Rattle.state.specs.declared.RouteSettings.{RouteSettings}
 use Rattle.state.specs.declared.Route.{Route}
-use Rattle.state.specs.declared.Routed.{Routed}
+use Rattle.state.specs.Routing.{Routed}
 use Rattle.state.specs.Manager.{Manager}
 use Rattle.state.specs.Manager.{no_route, route_at, settings_at, base, regions, effective, with_route, with_time}
 use Rattle.state.specs.Size.{header_size, alone_size}

@@ -6,13 +6,24 @@ mod answers;
 mod routes;
 mod sets;
 
-pub use answers::{accept, refuse};
-pub use routes::{closed_route, closed_size, end_octets, end_reason, is_ending, opened_route};
+pub use answers::{accept, answer_of, refuse, refuse_number};
+pub use routes::{closed_route, closed_size, end_octets, ending, opened_route};
 pub use sets::is_met;
+
+// What an accepted event did, with the number that its answer has.
+#[derive(Clone, Copy, PartialEq, Eq)]
+pub enum Outcome {
+    Opened = 1,
+    Placed = 2,
+    Lost = 3,
+    Unrouted = 4,
+    Closed = 5,
+    Ticked = 6,
+}
 
 // What an event answers: refusal 0 with the outcome (1 opened, 2 placed, 3 lost, 4 unrouted, 5 closed, 6 ticked), the route (255
 // for 4 and 6), the number of files closed, the octets of filters that RECEIVE compared (document 02, ask 7) and the octets written to
-// the output; or a refusal with zeros, but 17 with the needed octets.
+// the output; or a refusal with zeros, but 17 with the needed octets. C reads this struct: numbers and no enums.
 #[repr(C)]
 #[derive(Clone, Copy)]
 pub struct Answer {
@@ -24,7 +35,7 @@ pub struct Answer {
     pub octets: usize,
 }
 
-// What RECEIVE is told of a record beside its key and body.
+// What RECEIVE is told of a record beside its key and body. C writes this struct.
 #[repr(C)]
 #[derive(Clone, Copy)]
 pub struct Arrival {

@@ -1,8 +1,10 @@
 // What an opening and a closing do to a route, and when and with how many octets its file closes (document 01, The events).
-ghost use Rattle.std.specs.Prelude.{◌≡◌, ◌<◌, if◌then◌else◌};
+ghost use Rattle.std.specs.Prelude.{◌≡◌, ◌<◌, if◌then◌else◌, is_some, IfSome};
 ghost use Rattle.filing.specs.Closing.{closed_size};
+ghost use Rattle.filing.specs.Reason.{reason_number};
 ghost use Rattle.events.specs.Rules.{opened_route, closed_route, due, ending};
 
+use filing::Reason;
 use record::Release;
 use state::{OpenFile, Route};
 
@@ -11,8 +13,7 @@ use state::{OpenFile, Route};
 pub fn opened_route(r: Route, t: u32) -> Route
     ensures { result ≡ opened_route r t }
 {
-    let s = r.settings;
-    let configured = s.release;
+    let configured = r.settings.release;
     let file = OpenFile {
         sequence: r.next,
         opened: t,
@@ -24,12 +25,10 @@ pub fn opened_route(r: Route, t: u32) -> Route
         octets: 0,
     };
     Route {
-        settings: s,
-        next: std::num::wrapping_add_u32(r.next, 1),
-        losses: r.losses,
-        unrouted: r.unrouted,
+        next: r.next.wrapping_add(1),
         open: true,
-        file: file,
+        file,
+        ..r
     }
 }
 
@@ -37,7 +36,6 @@ pub fn opened_route(r: Route, t: u32) -> Route
 pub fn closed_route(r: Route) -> Route
     ensures { result ≡ closed_route r }
 {
-    let s = r.settings;
     let none = Release {
         release: 0,
         extension: 0,
@@ -54,12 +52,11 @@ pub fn closed_route(r: Route) -> Route
         octets: 0,
     };
     Route {
-        settings: s,
-        next: r.next,
         losses: 0,
         unrouted: 0,
         open: false,
-        file: file,
+        file,
+        ..r
     }
 }
 
@@ -67,9 +64,8 @@ pub fn closed_route(r: Route) -> Route
 pub fn closed_size(r: Route) -> usize
     ensures { result ≡ closed_size r }
 {
-    let s = r.settings;
     let f = r.file;
-    let header = state::header_size(s.octets, f.high, f.low);
+    let header = state::header_size(r.settings.octets, f.high, f.low);
     header as usize + f.octets as usize
 }
 
@@ -77,28 +73,31 @@ pub fn closed_size(r: Route) -> usize
 fn is_due(t: u32, r: Route) -> bool
     ensures { result ≡ due t r }
 {
-    r.open & (0 < r.settings.age) & (r.file.opened as u64 + r.settings.age as u64 <= t as u64)
+    r.open && 0 < r.settings.age && r.file.opened as u64 + r.settings.age as u64 <= t as u64
 }
 
-// Whether a TICK at time t closes the route's file; `met`: a set minute has fallen since its opening.
-pub fn is_ending(t: u32, r: Route, met: bool) -> bool
-    ensures { result ≡ ending t r met }
+// Whether a TICK at time t closes the route's file, and why: first where the open-time limit has been reached; then where `met`, a set minute
+// has fallen since its opening.
+pub fn ending(t: u32, r: Route, met: bool) -> Option<Reason>
+    ensures ends { is_some result ≡ ending t r met }
+    ensures reason { IfSome result (λ reason. reason_number reason ≡ (if due t r then 2 else 0)) }
 {
-    let due = is_due(t, r);
-    due | (r.open & met)
+    if is_due(t, r) {
+        Some(Reason::OpenTime)
+    } else if r.open && met {
+        Some(Reason::Normal)
+    } else {
+        None
+    }
 }
 
-// The reason of that: 2 where the open-time limit has been reached.
-pub fn end_reason(t: u32, r: Route) -> u8
-    ensures { result ≡ (if due t r then 2 else 0) }
-{
-    if is_due(t, r) { 2 } else { 0 }
-}
-
-// And its octets, 0 where it does not.
+// And with how many octets, 0 where it does not.
 pub fn end_octets(t: u32, r: Route, met: bool) -> usize
     ensures { (result ≡ (if ending t r met then closed_size r else 0)) × (result < 8589934592) }
 {
-    let size = closed_size(r);
-    if is_ending(t, r, met) { size } else { 0 }
+    if ending(t, r, met).is_some() {
+        closed_size(r)
+    } else {
+        0
+    }
 }

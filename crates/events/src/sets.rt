@@ -1,9 +1,10 @@
 // Set times of day (document 02, ask 6): whether one has fallen in a file's time.
 ghost use Rattle.std.specs.Prelude.{◌≡◌, ◌<◌, ◌≤◌};
 ghost use Rattle.words.specs.Words.{manager_in};
-ghost use Rattle.events.specs.Met.{fallen, met, Meetable};
+ghost use Rattle.state.specs.SetTimes.{set_count};
+ghost use Rattle.events.specs.Met.{fallen, falls_at, met, Meetable};
 
-use words::{set_count, set_minute};
+use words::{Words, set_count, set_minute};
 
 // How often a minute of day has fallen up to a time.
 fn fallen(bias: u32, minute: u32, time: u32) -> u32
@@ -13,20 +14,19 @@ fn fallen(bias: u32, minute: u32, time: u32) -> u32
     (time + bias + 1 + 1440 - minute) / 1440
 }
 
-// Whether one of route i's set minutes has fallen behind the opening of a file and not behind `time`.
-pub fn is_met(words: &[u32], i: usize, bias: u32, opened: u32, time: u32) -> bool
+// Whether route i's set minute j has fallen behind the opening of a file and not behind `time`.
+fn does_fall(words: &Words, i: usize, j: usize, bias: u32, opened: u32, time: u32) -> bool
+    requires { Meetable words.now i bias opened time × (j < set_count (manager_in words.now).set_times i) }
+    ensures { result ≡ falls_at (manager_in words.now).set_times i bias opened time j }
+{
+    let minute = set_minute(words, i, j);
+    fallen(bias, minute, opened) < fallen(bias, minute, time)
+}
+
+// Whether one of route i's set minutes has.
+pub fn is_met(words: &Words, i: usize, bias: u32, opened: u32, time: u32) -> bool
     requires { Meetable words.now i bias opened time }
     ensures { result ≡ met (manager_in words.now).set_times i bias opened time }
 {
-    let n = set_count(words, i);
-    let mut any = false;
-    let mut j: usize = 0;
-    while j < n {
-        let minute = set_minute(words, i, j);
-        let before = fallen(bias, minute, opened);
-        let by = fallen(bias, minute, time);
-        any = any | (before < by);
-        j += 1;
-    }
-    any
+    (0..set_count(words, i)).any(|j| does_fall(words, i, j, bias, opened, time))
 }

@@ -6,6 +6,9 @@ use Rattle.std.proofs.Common.{ap, ◌∙◌, append_assoc, arith, length-append,
 use Rattle.std.proofs.Math.Decide.{dec_lt}
 use Rattle.std.proofs.Math.Seq.{take-length}
 use borrow.Author.Tests.{lt-ltb, le-ltb, eq-eqb, ne_eqb, eqb-true, leb-true}
+use Rattle.std.specs.Bool.{Decides}
+use Rattle.std.proofs.lemmas.Bool.{false≢true}
+use Rattle.octets.specs.Alike.{alike, alike_is, alike_self}
 use Rattle.octets.specs.Splice.{splice, splice_then, splice_there}
 use Rattle.refusals.specs.Tests.{both, each}
 use Rattle.filename.specs.declared.Fields.{Fields}
@@ -101,6 +104,26 @@ pub spelled_there : (f : Fields) (node private : List ℕ) (xs buffer : List ℕ
     → take n buffer ≡ spelled f node private
 spelled_there f node private xs buffer n e l =
     (λ i. take (l i) (e i)) ∙ splice_there xs 0 (spelled f node private) (omega arith)
+
+-- the same octets are the same list, and only they are
+pub same_is : (xs ys : List ℕ) → same xs ys ≡ true → xs ≡ ys
+unfolding same
+same_is xs ys e =
+    let t = both (eqb (length xs) (length ys)) (alike xs ys (length xs)) e in
+    alike_is xs ys (eqb-true (length xs) (length ys) t.0) t.1
+
+pub same_self : (xs : List ℕ) → same xs xs ≡ true
+unfolding same
+same_self xs = rw (eq-eqb (length xs) (length xs) refl) (alike_self xs (length xs))
+
+-- what a test of that says
+pub same_told : (r : Bool) (xs ys : List ℕ) → Decides r (xs ≡ ys) → same xs ys ≡ r
+same_told true xs ys d = ap (same xs) (sym (d.0 refl)) ∙ same_self xs
+same_told false xs ys d = go (same xs ys) refl
+  where
+    go : (b : Bool) → same xs ys ≡ b → same xs ys ≡ false
+    go true e = absurd (false≢true (d.1 (same_is xs ys e)))
+    go false e = e
 
 module _ (xs : List ℕ) (f : Fields) (node private : List ℕ) where
   pub judged_wrong : right f node private ≡ false → no_name ≡ judged xs f node private

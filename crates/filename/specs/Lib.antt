@@ -1,4 +1,5 @@
 pub mod Name
+pub mod Plain
 pub mod Writing
 pub mod Reading
 pub mod Decimal

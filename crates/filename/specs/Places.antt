@@ -27,7 +27,7 @@ before_most stop xs k (suc n) =
     most h false = omega arith
 
 -- all octets count that are no stop
-before_all : (stop : ℕ) (xs : List ℕ) (k n : ℕ) → ((i : ℕ) → i < n → get_or xs (k + i) 0 ≡ stop → ⊥) → before stop xs k n ≡ n
+pub before_all : (stop : ℕ) (xs : List ℕ) (k n : ℕ) → ((i : ℕ) → i < n → get_or xs (k + i) 0 ≡ stop → ⊥) → before stop xs k n ≡ n
 before_all stop xs k zero h = refl
 before_all stop xs k (suc n) h =
     let e = before_all stop xs k n (λ i l. h i (omega arith)) in

@@ -1,28 +1,17 @@
 -- The proof of Names.antt: soundness is the reader's own comparison, completeness is that right fields are found at their
 -- places (Places). Assumes nothing.
-use Rattle.std.specs.Prelude.{◌≡◌, refl, Bool, true, false, cond, ◌&&◌, ◌↔◌, List, ◌++◌, ℕ, ◌+◌, ◌-◌, ◌≤◌, ◌<◌, min, eqb, length, take, drop}
-use Rattle.std.proofs.Common.{sym, ap, subst, ◌∙◌, arith, length-take, length-drop, take_at, eq-eqb, eqb-true}
+use Rattle.std.specs.Prelude.{◌≡◌, refl, Bool, true, false, cond, ◌&&◌, ◌↔◌, List, ◌++◌, ℕ, ◌+◌, ◌-◌, ◌≤◌, ◌<◌, min, length, take, drop}
+use Rattle.std.proofs.Common.{sym, ap, subst, ◌∙◌, arith, length-take, length-drop, take_at}
 use Rattle.std.proofs.Math.Decide.{dec_lt, ℕ_discrete}
-use Rattle.octets.specs.Alike.{alike, alike_is, alike_self}
 use Rattle.octets.specs.Splice.{splice}
 use Rattle.refusals.specs.Tests.{both}
 use Rattle.filename.specs.declared.Name.{Name}
 use Rattle.filename.specs.Name.{right, spelled}
 use Rattle.filename.specs.Writing.{After, after, answered}
 use Rattle.filename.specs.Reading.{node_length, closing_place, fields_of, node_of, private_of, same, named, no_name, judged, read_of}
-use Rattle.filename.specs.Cases.{write_wrong, write_short, write_done, judged_named, take_least, drop_least}
+use Rattle.filename.specs.Cases.{same_is, same_self, write_wrong, write_short, write_done, judged_named, take_least, drop_least}
 use Rattle.filename.specs.Places.{fields_read, node_read, private_read}
 use Rattle.filename.specs.Names.{Parts, Right, spelling, Named, handed_back, writing, Names}
-
-same_is : (xs ys : List ℕ) → same xs ys ≡ true → xs ≡ ys
-unfolding same
-same_is xs ys e =
-    let t = both (eqb (length xs) (length ys)) (alike xs ys (length xs)) e in
-    alike_is xs ys (eqb-true (length xs) (length ys) t.0) t.1
-
-same_self : (xs : List ℕ) → same xs xs ≡ true
-unfolding same
-same_self xs = rw (eq-eqb (length xs) (length xs) refl) (alike_self xs (length xs))
 
 -- The reader's two answers.
 

@@ -1,8 +1,10 @@
 -- The writer of names over any fields, node identifier, private part and output (document 02, ask 1): 20 where something is out
 -- of range, then 21 where the output is shorter than the name, with the output unchanged; or the name over the start of the
 -- output, and the octets behind it stay. Assumes nothing.
-use Rattle.std.specs.Prelude.{not, List, [], ◌∷◌, ℕ, zero, suc, ltb, length}
+use Rattle.std.specs.Prelude.{not, Result, Ok, Err, List, [], ◌∷◌, ℕ, zero, suc, ltb, length}
 use Rattle.octets.specs.Splice.{splice}
+use Rattle.refusals.specs.declared.Refusal.{Refusal}
+use Rattle.refusals.specs.Number.{number}
 use Rattle.refusals.specs.Refusal.{◌when◌, first}
 use Rattle.filename.specs.declared.Fields.{Fields}
 use Rattle.filename.specs.declared.Written.{Written}
@@ -18,6 +20,11 @@ after answer output = record { answer = answer; output = output }
 
 abbrev pub answered : ℕ → ℕ → Written
 answered refusal octets = record { refusal = refusal; octets = octets }
+
+-- what is answered where the name was written, and where it was refused
+abbrev pub answer_of : Result ℕ Refusal → Written
+answer_of (Ok octets) = answered 0 octets
+answer_of (Err refusal) = answered (number refusal) 0
 
 unfoldable pub verdict : Fields → List ℕ → List ℕ → List ℕ → ℕ
 verdict f node private output =

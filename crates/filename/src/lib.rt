@@ -11,9 +11,9 @@ pub use writing::write;
 
 // What a name says beside its node identifier and private part: the running count; the local date and time of closing; the sign
 // of the local time's differential from UTC, 1 for plus and 0 for minus, and its hours and minutes; and whether the private part
-// is there.
+// is there. C reads this struct and the two below: numbers, and no enum, Option or Result.
 #[repr(C)]
-#[derive(Clone, Copy)]
+#[derive(Clone, Copy, Default)]
 pub struct Fields {
     pub count: u32,
     pub year: u32,

@@ -4,41 +4,28 @@ ghost use Rattle.octets.specs.Splice.{splice};
 ghost use Rattle.filename.specs.Name.{sign_octet, closing, private_part, spelled};
 
 use crate::Fields;
-use numerals::{digit, put_decimal, width_of};
+use numerals::{digits, put_decimal, width_of};
 
 fn sign_octet(sign: u32) -> u8
     ensures { result ≡ sign_octet sign }
 {
-    if sign == 1 { 43 } else { 45 }
+    if sign == 1 { b'+' } else { b'-' }
 }
 
 // The point, the date, the delimiter and the time of closing.
 fn closing_of(f: Fields) -> [u8; 21]
     ensures { result ≡ closing f }
 {
-    [
-        46,
-        digit(f.year / 1000),
-        digit(f.year / 100),
-        digit(f.year / 10),
-        digit(f.year / 1),
-        digit(f.month / 10),
-        digit(f.month / 1),
-        digit(f.day / 10),
-        digit(f.day / 1),
-        95,
-        45,
-        95,
-        digit(f.hour / 10),
-        digit(f.hour / 1),
-        digit(f.minute / 10),
-        digit(f.minute / 1),
-        sign_octet(f.sign),
-        digit(f.dev_hour / 10),
-        digit(f.dev_hour / 1),
-        digit(f.dev_minute / 10),
-        digit(f.dev_minute / 1),
-    ]
+    let mut closing = *b".YYYYMMDD_-_HHMM+hhmm";
+    closing[1..5].copy_from_slice(&digits::<4>(f.year));
+    closing[5..7].copy_from_slice(&digits::<2>(f.month));
+    closing[7..9].copy_from_slice(&digits::<2>(f.day));
+    closing[12..14].copy_from_slice(&digits::<2>(f.hour));
+    closing[14..16].copy_from_slice(&digits::<2>(f.minute));
+    closing[16] = sign_octet(f.sign);
+    closing[17..19].copy_from_slice(&digits::<2>(f.dev_hour));
+    closing[19..].copy_from_slice(&digits::<2>(f.dev_minute));
+    closing
 }
 
 // Writes the private part with its point, where it is there.
@@ -53,6 +40,7 @@ fn put_private(has: u32, private: &[u8], output: &mut [u8], at: usize)
 }
 
 // How many octets the name of right fields has.
+#[tactic(auto, using(crate::specs::Cases::spelled_length))]
 pub fn length_of(f: Fields, node: &[u8], private: &[u8]) -> usize
     requires { (length node.now ≤ 20) × (length private.now ≤ 32) }
     ensures { (result ≡ length (spelled f node.now private.now)) × (result ≤ 87) }
@@ -66,6 +54,7 @@ pub fn length_of(f: Fields, node: &[u8], private: &[u8]) -> usize
 }
 
 // Writes the name of the fields over the start of the output, part behind part.
+#[tactic(auto, using(crate::specs::Cases::spelled_length))]
 pub fn spell(f: Fields, node: &[u8], private: &[u8], output: &mut [u8])
     requires { length (spelled f node.now private.now) ≤ length output.old }
     ensures { output.new ≡ splice output.old 0 (spelled f node.now private.now) }

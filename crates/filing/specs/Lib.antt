@@ -1,3 +1,4 @@
+pub mod Reason
 pub mod Closing
 pub mod Closed
 pub mod Needs

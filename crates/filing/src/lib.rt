@@ -7,10 +7,34 @@ ghost use Rattle.record.specs.Record.{record_octets};
 ghost use Rattle.filing.specs.Closing.{filler, header_for, lost_octet};
 ghost use Rattle.filing.specs.Closed.{closed_from};
 ghost use Rattle.filing.specs.Needs.{Appendable, Fitting, Headed, Closable};
+ghost use Rattle.filing.specs.Reason.{reason_number};
 
 use cdrfile::Header;
 use record::RecordHeader;
 use state::{Node, Route};
+
+// Why a file closes (document 01, File header), with the number that its header has.
+#[derive(Clone, Copy, PartialEq, Eq)]
+pub enum Reason {
+    Normal = 0,
+    SizeLimit = 1,
+    OpenTime = 2,
+    MostRecords = 3,
+    Manual = 4,
+    ReleaseChange = 5,
+    Abnormal = 128,
+    FileSystem = 129,
+    Storage = 130,
+    Integrity = 131,
+}
+
+impl Reason {
+    pub fn number(self) -> u8
+        ensures { result ≡ reason_number self }
+    {
+        self as u8
+    }
+}
 
 // Writes the first n octets of a header's five, which are four or all of them: copies of a known length, which are compiled to stores.
 fn put_header(part: &mut [u8], used: usize, header: [u8; 5], n: usize)
@@ -36,7 +60,8 @@ fn append_to(part: &mut [u8], used: usize, h: RecordHeader, body: &[u8])
 }
 
 // Appends a record to its route's region of the store, which starts at `base` and is `limit` octets long: it goes behind the
-// `used` octets of the file's records there.
+// `used` octets of the file's records there. docs/DECISIONS.md names this function and `close_file`: their store with a region's start, and
+// output with a place, stay parameters of their own.
 pub fn append(
     store: &mut [u8],
     base: usize,
@@ -56,9 +81,8 @@ pub fn append(
 fn address_of(node: [u8; 16]) -> [u8; 20]
     ensures { result ≡ filler ++ node }
 {
-    let mut address = [0u8; 20];
-    octets::copy(&mut address, 0, b"\xFF\xFF\xFF\xFF");
-    octets::copy(&mut address, 4, &node);
+    let mut address = [0xFF; 20];
+    address[4..].copy_from_slice(&node);
     address
 }
 
@@ -68,21 +92,18 @@ fn header_for(n: Node, r: Route, reason: u8, lost: u8) -> Header
     ensures { result ≡ header_for n r reason }
 {
     let f = r.file;
-    let high = f.high;
-    let low = f.low;
-    let node = n.address;
     let opened = timestamp::at(f.opened, n.bias);
     let appended = timestamp::at(f.appended, n.bias);
-    let address = address_of(node);
+    let address = address_of(n.address);
     Header {
-        high: high,
-        low: low,
-        opened: opened,
-        appended: appended,
+        high: f.high,
+        low: f.low,
+        opened,
+        appended,
         sequence: f.sequence,
-        reason: reason,
-        address: address,
-        lost: lost,
+        reason,
+        address,
+        lost,
         statement: 2,
     }
 }
@@ -117,7 +138,8 @@ fn close_into(
     );
 }
 
-// Closes the file of a route with a reason over the output from `at` on; its records stand from `base` on.
+// Closes the file of a route with a reason over the output from `at` on; its records stand from `base` on. The reason is a number, since this function
+// promises its file for any (docs/DECISIONS.md names it).
 pub fn close_file(
     n: Node,
     r: Route,

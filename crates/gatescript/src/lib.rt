@@ -1,11 +1,7 @@
-// What a gate script says: the words of its lines and what each line asks for. Beside that the memory that a run is lent.
+// What a gate script says: what each of its lines asks for.
 #![tactic(auto)]
 
-mod line_words;
-mod memory;
-mod reading;
+mod octet_words;
 mod script;
 
-pub use memory::{clear, half_mebibyte, line};
-pub use reading::{Told, next_command};
-pub use script::{Command, Event, Receipt};
+pub use script::{Command, Event, Receipt, command_of};

@@ -1,163 +1,112 @@
 // What a line of the script asks for.
-use crate::line_words::{octets_at, small_number_at};
+use crate::octet_words::put_octets;
 use events::Arrival;
-use textlines::number_at;
+use textlines::Words;
 
-// A RECEIVE: its key's and its body's octets stand one behind the other.
+// A RECEIVE.
 #[derive(Clone, Copy)]
-pub struct Receipt {
+pub struct Receipt<'a> {
     pub time: u32,
     pub arrival: Arrival,
-    pub key: usize,
-    pub body: usize,
+    pub key: &'a [u8],
+    pub body: &'a [u8],
 }
 
-// An event with its time, and then its route and its reason if it has them; a packet of so many octets; or nothing, where neither is due.
+// An event with its time, and then its route and its reason if it has them; or a packet.
 #[derive(Clone, Copy)]
-pub enum Event {
-    Nothing,
+pub enum Event<'a> {
     Open(u32, u32),
     Close(u32, u32, u32),
     Tick(u32),
-    Receive(Receipt),
-    Packet(usize),
+    Receive(Receipt<'a>),
+    Packet(&'a [u8]),
 }
 
-// A line's meaning: nothing, settings of so many octets, a store or outputs of so many octets, an event, or the state to be
-// printed. Any other line is wrong. Behind the last line stands the script's end.
+// A line's meaning: nothing, settings, a store or outputs of so many octets, an event, or the state to be printed.
 #[derive(Clone, Copy)]
-pub enum Command {
+pub enum Command<'a> {
     Comment,
-    Settings(usize),
-    Store(u32),
-    Width(u32),
-    Happening(Event),
+    Settings(&'a [u8]),
+    Store(usize),
+    Width(usize),
+    Happening(Event<'a>),
     State,
-    Wrong,
-    End,
 }
 
-fn settings_of(line: &[u8], space: &mut [u8]) -> Command {
-    let o = octets_at(line, 1, space);
-    if o.next == line.len() {
-        Command::Settings(o.count)
-    } else {
-        Command::Wrong
-    }
+// The octets of a line that has nothing else.
+fn only_octets<'a>(mut words: Words<'_>, space: &'a mut [u8]) -> Option<&'a [u8]> {
+    let count = put_octets(space, words.word()?)?;
+    words.end()?;
+    space.get(..count)
 }
 
-fn store_of(line: &[u8]) -> Command {
-    let n = number_at(line, 1);
-    if n.next == line.len() {
-        Command::Store(n.value)
-    } else {
-        Command::Wrong
-    }
+// The number of a line that has nothing else.
+fn only_number(mut words: Words<'_>) -> Option<u32> {
+    let number = words.number()?;
+    words.end()?;
+    Some(number)
 }
 
-fn width_of(line: &[u8]) -> Command {
-    let n = number_at(line, 1);
-    if n.next == line.len() {
-        Command::Width(n.value)
-    } else {
-        Command::Wrong
-    }
+fn open_of<'a>(mut words: Words<'_>) -> Option<Event<'a>> {
+    let time = words.number()?;
+    let route = words.number()?;
+    words.end()?;
+    Some(Event::Open(time, route))
 }
 
-fn open_of(line: &[u8]) -> Command {
-    let time = number_at(line, 1);
-    let route = number_at(line, time.next);
-    if route.next == line.len() {
-        Command::Happening(Event::Open(time.value, route.value))
-    } else {
-        Command::Wrong
-    }
+fn close_of<'a>(mut words: Words<'_>) -> Option<Event<'a>> {
+    let time = words.number()?;
+    let route = words.number()?;
+    let reason = words.number()?;
+    words.end()?;
+    Some(Event::Close(time, route, reason))
 }
 
-fn close_of(line: &[u8]) -> Command {
-    let time = number_at(line, 1);
-    let route = number_at(line, time.next);
-    let reason = number_at(line, route.next);
-    if reason.next == line.len() {
-        Command::Happening(Event::Close(time.value, route.value, reason.value))
-    } else {
-        Command::Wrong
-    }
-}
-
-fn tick_of(line: &[u8]) -> Command {
-    let time = number_at(line, 1);
-    if time.next == line.len() {
-        Command::Happening(Event::Tick(time.value))
-    } else {
-        Command::Wrong
-    }
-}
-
-fn receive_of(line: &[u8], space: &mut [u8]) -> Command {
-    let time = number_at(line, 1);
-    let mark = number_at(line, time.next);
-    let key = octets_at(line, mark.next, space);
-    let release = number_at(line, key.next);
-    let version = number_at(line, release.next);
-    let extension = small_number_at(line, version.next);
-    let format = number_at(line, extension.next);
-    let ts = number_at(line, format.next);
-    let from = key.count;
-    let body = octets_at(line, ts.next, &mut space[from..]);
-    if body.next != line.len() {
-        return Command::Wrong;
-    }
+// A RECEIVE's body stands behind its key.
+fn receive_of<'a>(mut words: Words<'_>, space: &'a mut [u8]) -> Option<Event<'a>> {
+    let time = words.number()?;
+    let mark = words.number()?;
+    let count = put_octets(space, words.word()?)?;
+    let (key, rest) = space.split_at_mut_checked(count)?;
     let arrival = Arrival {
-        mark: mark.value,
-        release: release.value,
-        version: version.value,
-        extension: extension.value as u8,
-        format: format.value,
-        ts: ts.value,
+        mark,
+        release: words.number()?,
+        version: words.number()?,
+        extension: u8::try_from(words.number()?).ok()?,
+        format: words.number()?,
+        ts: words.number()?,
     };
-    let receipt = Receipt {
-        time: time.value,
-        arrival: arrival,
-        key: from,
-        body: body.count,
-    };
-    Command::Happening(Event::Receive(receipt))
+    let count = put_octets(rest, words.word()?)?;
+    let body = rest.get(..count)?;
+    words.end()?;
+    Some(Event::Receive(Receipt {
+        time,
+        arrival,
+        key,
+        body,
+    }))
 }
 
-fn packet_of(line: &[u8], space: &mut [u8]) -> Command {
-    let o = octets_at(line, 1, space);
-    if o.next == line.len() {
-        Command::Happening(Event::Packet(o.count))
-    } else {
-        Command::Wrong
+fn meaning<'a>(letter: u8, words: Words<'_>, space: &'a mut [u8]) -> Option<Command<'a>> {
+    match letter {
+        b'#' => Some(Command::Comment),
+        b'S' => Some(Command::Settings(only_octets(words, space)?)),
+        b'M' => Some(Command::Store(only_number(words)? as usize)),
+        b'W' => Some(Command::Width(only_number(words)? as usize)),
+        b'O' => Some(Command::Happening(open_of(words)?)),
+        b'C' => Some(Command::Happening(close_of(words)?)),
+        b'T' => Some(Command::Happening(Event::Tick(only_number(words)?))),
+        b'R' => Some(Command::Happening(receive_of(words, space)?)),
+        b'B' => Some(Command::Happening(Event::Packet(only_octets(words, space)?))),
+        b'Q' => words.end().map(|()| Command::State),
+        _ => None,
     }
 }
 
-fn state_of(line: &[u8]) -> Command {
-    if line.len() == 1 {
-        Command::State
-    } else {
-        Command::Wrong
-    }
-}
-
-// The meaning of a line, whose octets, if it has any, go to the start of `space`.
-pub fn command_of(line: &[u8], space: &mut [u8]) -> Command {
-    if line.len() == 0 {
-        return Command::Comment;
-    }
-    match line[0] {
-        b'#' => Command::Comment,
-        b'S' => settings_of(line, space),
-        b'M' => store_of(line),
-        b'W' => width_of(line),
-        b'O' => open_of(line),
-        b'C' => close_of(line),
-        b'T' => tick_of(line),
-        b'R' => receive_of(line, space),
-        b'B' => packet_of(line, space),
-        b'Q' => state_of(line),
-        _ => Command::Wrong,
+// The meaning of a line, whose octets, if it has any, go to the start of the space; or none where it is wrong.
+pub fn command_of<'a>(line: &[u8], space: &'a mut [u8]) -> Option<Command<'a>> {
+    match line {
+        [] => Some(Command::Comment),
+        [letter, words @ ..] => meaning(*letter, Words::new(words), space),
     }
 }

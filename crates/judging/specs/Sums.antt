@@ -1,7 +1,7 @@
 -- One number of a filter: the sum of its five words. Filters with different sums are different, so that routes whose sums all differ
 -- need no further look (document 01, Refusals 18: no two filters are equal). Equal sums say nothing. Assumes nothing.
-use Rattle.std.specs.Prelude.{◌≡◌, refl, Bool, true, false, not, List, ℕ, ◌+◌, ◌*◌, ◌≤◌, ◌<◌, eqb, length, get_or, set, drop}
-use Rattle.std.proofs.Common.{sym, ap, ◌∙◌, arith, get_or-set_same, get_or-set_other}
+use Rattle.std.specs.Prelude.{◌≡◌, refl, Bool, true, false, not, List, ℕ, ◌+◌, ◌*◌, ◌≤◌, ◌<◌, eqb, length, get_or, set, take, drop}
+use Rattle.std.proofs.Common.{sym, ap, ◌∙◌, arith, lit<, get_or-set_same, get_or-set_other}
 use Rattle.std.proofs.Math.Decide.{ℕ_discrete}
 use Rattle.std.proofs.lemmas.Bool.{eqb-false, not-true}
 use Rattle.octets.specs.Alike.{alike, alike_is}
@@ -11,7 +11,7 @@ use Rattle.state.specs.declared.Route.{Route}
 use Rattle.state.specs.Manager.{settings_at}
 use Rattle.state.specs.Bounds.{same_filter, other_at, new_at, distinct}
 use Rattle.words.specs.Words.{four_at, settings_in, route_in, manager_in}
-use Rattle.words.specs.Laws.{packed_word, route_in_lem}
+use Rattle.words.specs.Laws.{packed_word, route_in_lem, word_in}
 
 -- of the words that a route begins with
 abbrev pub filter_sum : List ℕ → ℕ
@@ -20,6 +20,12 @@ filter_sum xs = get_or xs 0 0 + get_or xs 1 0 + get_or xs 2 0 + get_or xs 3 0 + 
 -- of route i
 abbrev pub sum_at : List ℕ → ℕ → ℕ
 sum_at xs i = filter_sum (drop (8 + 19 * i) xs)
+
+-- which its own words alone say
+pub sum_there : (xs : List ℕ) (i : ℕ) → filter_sum (take 19 (drop (8 + 19 * i) xs)) ≡ sum_at xs i
+sum_there xs i =
+    let part = drop (8 + 19 * i) xs in
+    λ k. word_in part 0 (lit< tt) k + word_in part 1 (lit< tt) k + word_in part 2 (lit< tt) k + word_in part 3 (lit< tt) k + word_in part 4 (lit< tt) k
 
 -- no two of the routes below n have the same: each has none of those before it
 abbrev other_as : List ℕ → ℕ → ℕ → Bool

@@ -1,16 +1,16 @@
 // Refusal 18 (document 01, Refusals): whether a state is within its bounds.
-ghost use Rattle.std.specs.Prelude.{◌≡◌, ◌≤◌, length};
+ghost use Rattle.std.specs.Prelude.{◌≡◌, ◌≤◌};
 ghost use Rattle.state.specs.Bounds.{route_right, routes_right, state_right};
 ghost use Rattle.words.specs.Words.{route_in, manager_in};
 
+use crate::below::all_below;
 use crate::filters::are_distinct;
 use crate::ranges::settings_right;
 use crate::sets::sets_right;
-use words::{count_of, file_in, flag_of, settings_in};
+use words::{RouteWords, Words, count_of, file_in, flag_of, route_words, settings_in};
 
 // Whether the route that these words begin with is right. A closed route's file is not looked at.
-fn route_right(last: u32, part: &[u32]) -> bool
-    requires { 19 ≤ length part.now }
+fn route_right(last: u32, part: &RouteWords) -> bool
     ensures { result ≡ route_right last (route_in part.now) }
 {
     let right = settings_right(part);
@@ -25,25 +25,16 @@ fn route_right(last: u32, part: &[u32]) -> bool
 }
 
 // Whether the routes below n are right.
-pub fn routes_right(words: &[u32], n: usize) -> bool
-    requires { (length words.now ≡ 360) × (n ≤ 8) }
+pub fn routes_right(words: &Words, n: usize) -> bool
+    requires { n ≤ 8 }
     ensures { result ≡ routes_right (manager_in words.now) n }
 {
     let last = words[6];
-    let mut all = true;
-    let mut i: usize = 0;
-    while i < n {
-        let at = 8 + 19 * i;
-        let right = route_right(last, &words[at..]);
-        all = all & right;
-        i += 1;
-    }
-    all
+    all_below(n, |i| route_right(last, route_words(words, i)))
 }
 
 // Whether the state is within its bounds. More routes than eight are told first, so that none is looked for that is not there.
-pub fn state_right(words: &[u32]) -> bool
-    requires { length words.now ≡ 360 }
+pub fn state_right(words: &Words) -> bool
     ensures { result ≡ state_right (manager_in words.now) }
 {
     let n = count_of(words);

@@ -1,70 +1,46 @@
 // Settings in range (document 01, Settings, Refusals 2 and 18), on a route's words.
-ghost use Rattle.std.specs.Prelude.{◌≡◌, ◌≤◌, length};
+ghost use Rattle.std.specs.Prelude.{◌≡◌};
 ghost use Rattle.state.specs.Bounds.{zero_from, settings_right};
 ghost use Rattle.words.specs.Words.{settings_in};
 ghost use Rattle.judging.specs.Unused.{rest_zero};
 
-use words::{release_in, top_of};
+use words::{RouteWords, release_in, top_of};
 
 // Whether the octets of a word from its u-th on are 0.
-fn rest_zero(w: u32, u: u32) -> bool
+fn rest_zero(w: u32, u: usize) -> bool
     ensures { result ≡ rest_zero w u }
 {
-    if 4 <= u {
-        return true;
+    match u {
+        0 => w == 0,
+        1 => w % 16777216 == 0,
+        2 => w % 65536 == 0,
+        3 => w % 256 == 0,
+        _ => true,
     }
-    if u == 0 {
-        return w == 0;
-    }
-    if u == 1 {
-        return w % 16777216 == 0;
-    }
-    if u == 2 {
-        return w % 65536 == 0;
-    }
-    w % 256 == 0
 }
 
 // Whether the filter's octets from n on are 0: from the last word down to the one in which the last octet that counts stands.
-fn unused_zero(part: &[u32], n: u32) -> bool
-    requires { 19 ≤ length part.now }
+fn unused_zero(part: &RouteWords, n: usize) -> bool
     ensures { result ≡ zero_from (settings_in part.now).filter n 20 }
 {
-    if 16 <= n {
-        return rest_zero(part[4], n - 16);
-    }
-    if part[4] != 0 {
-        return false;
-    }
-    if 12 <= n {
-        return rest_zero(part[3], n - 12);
-    }
-    if part[3] != 0 {
-        return false;
-    }
-    if 8 <= n {
-        return rest_zero(part[2], n - 8);
-    }
-    if part[2] != 0 {
-        return false;
-    }
-    if 4 <= n {
-        return rest_zero(part[1], n - 4);
-    }
-    if part[1] != 0 {
-        return false;
+    for k in (1..5).rev() {
+        if 4 * k <= n {
+            return rest_zero(part[k], n - 4 * k);
+        }
+        if part[k] != 0 {
+            return false;
+        }
     }
     rest_zero(part[0], n)
 }
 
 // Whether the settings of the route that these words begin with are in range. The filter is tested as words: laid out as octets
 // first, it would be waited for.
-pub fn settings_right(part: &[u32]) -> bool
-    requires { 19 ≤ length part.now }
+pub fn settings_right(part: &RouteWords) -> bool
     ensures { result ≡ settings_right (settings_in part.now) }
 {
     let octets = top_of(part[5]);
-    let unused = unused_zero(part, octets as u32);
+    let unused = unused_zero(part, usize::from(octets));
     let release = release_in(part[5]);
     let narrow = record::is_narrow_release(release);
     let flag = top_of(part[16]);

@@ -1,13 +1,14 @@
 // Set minutes (document 02, ask 6, Refusals 18 and 22): a route has at most 24, each of a day, rising.
-ghost use Rattle.std.specs.Prelude.{◌≡◌, ◌≤◌, ◌<◌, length};
+ghost use Rattle.std.specs.Prelude.{◌≡◌, ◌≤◌, ◌<◌};
 ghost use Rattle.state.specs.SetTimes.{set_minute, minute_right, set_right_at, sets_right, no_sets};
 ghost use Rattle.words.specs.Words.{manager_in};
 
-use words::{set_count, set_minute};
+use crate::below::all_below;
+use words::{Words, set_count, set_minute};
 
 // Whether the j-th set minute of route i is one of a day, and later than the one before it.
-fn minute_right(words: &[u32], i: usize, j: usize) -> bool
-    requires { (length words.now ≡ 360) × (i < 8) × (j < 24) }
+fn minute_right(words: &Words, i: usize, j: usize) -> bool
+    requires { (i < 8) × (j < 24) }
     ensures { result ≡ minute_right (set_minute (manager_in words.now).set_times i) j }
 {
     let minute = set_minute(words, i, j);
@@ -19,53 +20,31 @@ fn minute_right(words: &[u32], i: usize, j: usize) -> bool
 }
 
 // Whether route i's set minutes are right. More than 24 are told first, so that none is looked for that is not there.
-fn set_right(words: &[u32], i: usize) -> bool
-    requires { (length words.now ≡ 360) × (i < 8) }
+fn set_right(words: &Words, i: usize) -> bool
+    requires { i < 8 }
     ensures { result ≡ set_right_at (manager_in words.now).set_times i }
 {
     let n = set_count(words, i);
     if 24 < n {
         return false;
     }
-    let mut all = true;
-    let mut j: usize = 0;
-    while j < n {
-        let right = minute_right(words, i, j);
-        all = all & right;
-        j += 1;
-    }
-    all
+    all_below(n, |j| minute_right(words, i, j))
 }
 
 // Whether none of the eight routes has any.
-fn are_none(words: &[u32]) -> bool
-    requires { length words.now ≡ 360 }
+fn are_none(words: &Words) -> bool
     ensures { result ≡ no_sets (manager_in words.now).set_times }
 {
-    (words[160] == 0)
-        & (words[161] == 0)
-        & (words[162] == 0)
-        & (words[163] == 0)
-        & (words[164] == 0)
-        & (words[165] == 0)
-        & (words[166] == 0)
-        & (words[167] == 0)
+    all_below(8, |i| words[160 + i] == 0)
 }
 
 // Whether those of the routes below n are right. As a rule nobody has any, which eight words tell.
-pub fn sets_right(words: &[u32], n: usize) -> bool
-    requires { (length words.now ≡ 360) × (n ≤ 8) }
+pub fn sets_right(words: &Words, n: usize) -> bool
+    requires { n ≤ 8 }
     ensures { result ≡ sets_right (manager_in words.now).set_times n }
 {
     if are_none(words) {
         return true;
     }
-    let mut all = true;
-    let mut i: usize = 0;
-    while i < n {
-        let right = set_right(words, i);
-        all = all & right;
-        i += 1;
-    }
-    all
+    all_below(n, |i| set_right(words, i))
 }

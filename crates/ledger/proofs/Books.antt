@@ -16,7 +16,7 @@ use Rattle.counts.specs.declared.Counts.{Counts as LossCounts}
 use Rattle.counts.specs.Counts.{count_octets, counts_in}
 use Rattle.counts.specs.Laws.{counts_there, counts_back}
 use Rattle.state.specs.declared.RouteSettings.{RouteSettings}
-use Rattle.state.specs.declared.Routed.{Routed}
+use Rattle.state.specs.Routing.{Routed}
 use Rattle.state.specs.Routing.{nobody, better, fits}
 use Rattle.events.specs.declared.Answer.{Answer}
 use Rattle.events.specs.declared.Arrival.{Arrival}

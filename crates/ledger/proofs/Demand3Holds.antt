@@ -6,9 +6,8 @@ use Rattle.std.proofs.Math.Path.{ap}
 use Rattle.std.proofs.Math.Bool.{cond}
 use mathlib.Core.List.{List, [], ◌∷◌, ◌++◌}
 use Rattle.octets.specs.Number.{Octets}
-use Rattle.record.specs.declared.Tallied.{Tallied}
 use Rattle.record.specs.Record.{Record, AllRight, records_octets}
-use Rattle.record.specs.Walk.{tallied, tally_of}
+use Rattle.record.specs.Walk.{Tallied, tallied, tally_of}
 use Rattle.cdrfile.specs.File.{File, layout}
 use Rattle.counts.specs.Counts.{counts_in}
 use Rattle.roundtrip.specs.Described.{RightFile}

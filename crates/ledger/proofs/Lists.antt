@@ -8,7 +8,7 @@ use Rattle.std.proofs.Math.Dec.{eqb-suc-zero}
 use Rattle.record.specs.Record.{Record}
 use Rattle.cdrfile.specs.File.{File}
 use Rattle.state.specs.declared.RouteSettings.{RouteSettings}
-use Rattle.state.specs.declared.Routed.{Routed}
+use Rattle.state.specs.Routing.{Routed}
 use Rattle.settings.specs.Settings.{routes_in, route_start}
 use Rattle.events.specs.declared.Answer.{Answer}
 use Rattle.events.specs.declared.Arrival.{Arrival}

@@ -9,7 +9,7 @@ use Rattle.refusals.specs.Refusal.{◌when◌, first, passed, or_false}
 use Rattle.refusals.specs.Below.{all_below, below_each, below_all}
 use Rattle.record.specs.Record.{RightRecord}
 use Rattle.state.specs.declared.RouteSettings.{RouteSettings}
-use Rattle.state.specs.declared.Routed.{Routed}
+use Rattle.state.specs.Routing.{Routed}
 use Rattle.state.specs.Manager.{Manager}
 use Rattle.state.specs.Manager.{route_at, settings_at, regions, effective}
 use Rattle.state.specs.Size.{alone_size}

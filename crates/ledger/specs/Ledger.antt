@@ -19,7 +19,7 @@ use Rattle.record.specs.Record.{Record, records_octets}
 use Rattle.cdrfile.specs.File.{File, layout}
 use Rattle.counts.specs.Counts.{count_octets}
 use Rattle.state.specs.declared.RouteSettings.{RouteSettings}
-use Rattle.state.specs.declared.Routed.{Routed}
+use Rattle.state.specs.Routing.{Routed}
 use Rattle.state.specs.Manager.{no_release, filter_of}
 use Rattle.state.specs.Size.{header_size}
 use Rattle.state.specs.Loss.{lost, indicator}

@@ -1,11 +1,14 @@
 -- Octets in lexicographic order: 0, the first list comes before the second; 1, they are the same; 2, the first comes after the second. It is a total order.
 use Rattle.std.specs.Prelude.{◌≡◌, refl, Bool, true, false, cond, List, [], ◌∷◌, ◌++◌, ℕ, zero, suc, ◌+◌, ◌-◌, ◌*◌, ◌^◌, ◌≤◌, ◌<◌, ltb, length, get_or, take, drop}
-use Rattle.std.proofs.Common.{sym, ap, ◌∙◌, add-one, mul-le-mul_right, suc-mul, lit≤, take-append-drop, length-take, length-drop, drop-drop, take_all}
+use Rattle.std.proofs.Common.{sym, ap, ◌∙◌, add-one, mul-le-mul_right, suc-mul, lit≤, eq-eqb, ne_eqb, take-append-drop, length-take, length-drop, drop-drop, take_all}
 use native.Mathlib.Omega.{arith}
 use Rattle.std.proofs.Math.ListN.{drop_of_length-le}
 use Rattle.std.proofs.Math.Seq.{drop-cons}
 use Rattle.octets.specs.Number.{Octets, be, num, num_lt, be_num}
 use Rattle.octets.specs.Alike.{alike, alike_is}
+use Rattle.std.specs.declared.cmp.Ordering.{Ordering}
+use Rattle.std.specs.Ordering.{ordering_index, ordering_then, nat_cmp}
+use Rattle.std.specs.Cmp.Lexicographic.{slice_cmp}
 use borrow.Author.Tests.{lt-ltb, le-ltb, ltb-true, ltb-false}
 
 unfoldable pub order_of : List ℕ → List ℕ → ℕ
@@ -108,7 +111,7 @@ order_trans (x ∷ xs) [] zs a b = absurd (omega arith)
 order_trans (x ∷ xs) (y ∷ ys) [] a b = absurd (omega arith)
 order_trans (x ∷ xs) (y ∷ ys) (z ∷ zs) a b = trans_step x y z xs ys zs (order_trans xs ys zs) (lies x y) (lies y z) a b
 
--- A loop at place i: the octets there settle it, or the order is that of what follows them.
+-- At place i: the octets there settle it, or the order is that of what follows them.
 module _ (xs ys : List ℕ) (i : ℕ) where
   module _ (hx : i < length xs) (hy : i < length ys) where
     fronts : order_of (drop i xs) (drop i ys) ≡ order_of (get_or xs i 0 ∷ drop (suc i) xs) (get_or ys i 0 ∷ drop (suc i) ys)
@@ -148,7 +151,7 @@ order_block xs ys i n e =
     let g : b ++ drop (i + n) ys ≡ drop i ys = (λ k. e k ++ sym (drop-drop n i ys) k) ∙ take-append-drop n (drop i ys) in
     sym (order_append b (drop (i + n) xs) (drop (i + n) ys)) ∙ (λ k. order_of (f k) (g k))
 
--- the same in a loop's terms: the parts from i on are alike in n octets
+-- the same where two parts from i on are alike in n octets
 pub order_alike : (xs ys : List ℕ) (i n : ℕ) → i + n ≤ length xs → i + n ≤ length ys
     → alike (take (i + n - i) (drop i xs)) (take (i + n - i) (drop i ys)) n ≡ true
     → order_of (drop (i + n) xs) (drop (i + n) ys) ≡ order_of (drop i xs) (drop i ys)
@@ -204,3 +207,17 @@ module _ {f g : List ℕ} (o : Octets f) (p : Octets g) where
   order_pass w i hf hg e =
       sym (order_append (be w (num w f i)) (drop (i + w) f) (drop (i + w) g))
       ∙ (λ k. order_of (be_num o w i hf k) ((ap (λ (n : ℕ). be w n ++ drop (i + w) g) e ∙ be_num p w i hg) k))
+
+-- It is the order that std has of lists of numbers, its three answers counted from 0.
+std_step : (q : Ordering) (x y : ℕ) (xs ys : List ℕ) → ordering_index q ≡ order_of xs ys → Lies x y
+    → ordering_index (ordering_then (nat_cmp x y) q) ≡ order_of (x ∷ xs) (y ∷ ys)
+std_step q x y xs ys h (below l) = rw (lt-ltb x y l) (sym (order_before x y xs ys l))
+std_step q x y xs ys h (level l) = let m : y ≤ x = omega arith in rw (le-ltb x y m, eq-eqb x y l) (h ∙ sym (order_on x y xs ys l))
+std_step q x y xs ys h (above l) = let m : y ≤ x = omega arith in rw (le-ltb x y m, ne_eqb x y (λ (e : x ≡ y). omega arith)) (sym (order_after x y xs ys l))
+
+pub order_std : (xs ys : List ℕ) → ordering_index (slice_cmp nat_cmp xs ys) ≡ order_of xs ys
+unfolding order_of
+order_std [] [] = refl
+order_std [] (y ∷ ys) = refl
+order_std (x ∷ xs) [] = refl
+order_std (x ∷ xs) (y ∷ ys) = std_step (slice_cmp nat_cmp xs ys) x y xs ys (order_std xs ys) (lies x y)

@@ -1,6 +1,6 @@
 -- Decimal numbers: a number's digits in ASCII, how many it has, and their laws. Assumes nothing.
-use Rattle.std.specs.Prelude.{◌≡◌, refl, Bool, true, false, cond, List, [], ◌∷◌, ℕ, zero, suc, ◌+◌, ◌-◌, ◌/◌, ◌%◌, ◌^◌, ◌≤◌, ◌<◌, ltb, length, take, drop}
-use Rattle.std.proofs.Common.{sym, ap, ◌∙◌, arith, lit<, lt-ltb, le-ltb, ltb-true}
+use Rattle.std.specs.Prelude.{◌≡◌, refl, Bool, true, false, cond, List, [], ◌∷◌, ℕ, zero, suc, ◌+◌, ◌-◌, ◌*◌, ◌/◌, ◌%◌, ◌^◌, ◌≤◌, ◌<◌, max, ltb, length, take, drop}
+use Rattle.std.proofs.Common.{sym, ap, ◌∙◌, add-one, arith, lit<, lt-ltb, le-ltb, ltb-true}
 use Rattle.std.proofs.Math.Nat.{pow-succ'}
 use Rattle.std.proofs.Math.Seq.{take-length}
 
@@ -57,6 +57,15 @@ width_top w n h = rw (le-ltb n (10 ^ suc w) h)
 -- a number with w + 2 digits
 pub width_is : (k w n : ℕ) → 10 ^ suc w ≤ n → n < 10 ^ suc (suc w) → width_to (k + suc w) n ≡ suc (suc w)
 width_is k w n h l = width_skip k (suc w) n l ∙ width_top w n h
+
+-- a number has one digit more than its logarithm, and 0 has one
+pub width_log : (n k : ℕ) → 10 ^ k ≤ max n 1 → max n 1 < 10 * 10 ^ k → k < 10 → width n ≡ k + 1
+width_log n zero above below few = width_skip 9 0 n (omega arith)
+width_log n (suc w) above below few =
+    let low : 10 ^ suc w ≤ n = omega (arith, above, pow-succ' 10 w, ten_positive w) in
+    let high : n < 10 ^ suc (suc w) = rw (pow-succ' 10 (suc w)) (omega (arith, below)) in
+    let ten : 8 - w + suc w ≡ 9 = omega arith in
+    ap (λ (m : ℕ). width_to m n) (sym ten) ∙ width_is (8 - w) w n low high ∙ sym (add-one (suc w))
 
 -- a number is below the power of ten of its width
 pub width_holds : (w n : ℕ) → n < 10 ^ suc w → n < 10 ^ width_to w n

@@ -1,7 +1,8 @@
 -- Octets, and numbers of several octets: unsigned, most significant octet first (document 01, preamble; 000, 6.1 d).
 -- The laws hold for every width, so that two octets, four, and later fields share them. Assumes nothing.
 use Rattle.std.specs.Prelude.{◌≡◌, refl, List, [], ◌∷◌, ◌++◌, ℕ, zero, suc, ◌+◌, ◌*◌, ◌/◌, ◌%◌, ◌^◌, ◌≤◌, ◌<◌, length, get_or, take, drop}
-use Rattle.std.proofs.Common.{sym, ap, ◌∙◌, append_assoc, append-nil, mul_assoc, mod-lt, mod-eq_of_lt, add-zero, add-one, arith, lit<, length-append, length-take, drop_of_length-le, drop-cons, get_or-drop, get_or-take}
+use Rattle.std.specs.Int.{w32, to_be_bytes}
+use Rattle.std.proofs.Common.{sym, ap, ◌∙◌, append_assoc, append-nil, mul_assoc, mod-lt, mod-eq_of_lt, add-zero, add-one, arith, lit<, length-append, length-take, drop_of_length-le, drop-cons, get_or-drop, get_or-take, take_at}
 use Rattle.std.proofs.Math.Nat.{pow-succ', mul-add-div_right, mul-add-mod_self_right}
 use Rattle.std.proofs.Math.Decide.{dec_lt}
 use Rattle.std.proofs.Math.Arith.{mod-mul, digits_div, digits_lt}
@@ -30,6 +31,12 @@ pub record Octets (xs : List ℕ) : Type 0 where
 pub be_length : (w n : ℕ) → length (be w n) ≡ w
 be_length zero n = refl
 be_length (suc w) n = ap suc (be_length w n)
+
+-- std's `to_be_bytes` of a number of 32 bits
+pub be_bytes : (n : ℕ) → to_be_bytes w32 n ≡ be 4 n
+be_bytes n =
+    let last : n % 256 ≡ n / 1 % 256 = omega arith in
+    λ i. n / 16777216 % 256 ∷ n / 65536 % 256 ∷ n / 256 % 256 ∷ last i ∷ []
 
 pub pow_positive : (w : ℕ) → 0 < 256 ^ w
 pow_positive zero = lit< tt
@@ -127,6 +134,11 @@ octets_at_at (suc w) xs k zero h = ap (λ (n : ℕ). get_or xs n 0) (sym (add-ze
 octets_at_at (suc w) xs k (suc j) h =
     let e : k + 1 + j ≡ k + suc j = omega arith in
     octets_at_at w xs (k + 1) j (omega arith) ∙ ap (λ (n : ℕ). get_or xs n 0) e
+
+-- all of them, as a part of the list
+pub octets_at_taken : (w : ℕ) (xs : List ℕ) (k : ℕ) → k + w ≤ length xs → take w (drop k xs) ≡ octets_at w xs k
+octets_at_taken w xs k h =
+    sym (ap (take w) (octets_at_lem w xs k h)) ∙ take_at (octets_at w xs k) (drop (k + w) xs) w (octets_at_length w xs k)
 
 pub octets_at_octets : (w : ℕ) {xs : List ℕ} (k : ℕ) → Octets xs → Octets (octets_at w xs k)
 octets_at_octets zero k o = octets_nil

@@ -1,8 +1,8 @@
 -- A packet gone through from record to record (document 02, ask 8): what is known at its n-th, which starts at `at`, and how it ends.
 -- Assumes nothing.
 use Rattle.std.specs.Prelude.{◌≡◌, refl, Bool, true, false, cond, not, ◌&&◌, ◌||◌, List, [], ◌∷◌, ℕ, zero, suc, ◌+◌, ◌-◌, ◌*◌, ◌^◌, ◌≤◌, ◌<◌, leb, eqb, length, get_or, take, drop}
-use Rattle.std.proofs.Common.{sym, ap, ◌∙◌, arith, zero-add, length-drop, drop_of_length-le, drop-drop, get_or-drop, le-leb, ne_eqb}
-use Rattle.std.proofs.lemmas.Bool.{lt-leb}
+use Rattle.std.proofs.Common.{sym, ap, ◌∙◌, arith, zero-add, length-drop, drop_of_length-le, drop-drop, get_or-drop, le-leb, ne_eqb, eqb-true}
+use Rattle.std.proofs.lemmas.Bool.{lt-leb, eqb-false}
 use Rattle.octets.specs.Number.{num}
 use Rattle.packets.specs.Packet.{arrival_of, size_of, first_of, whole, records_in, wrong_packet, delivered, count_of}
 
@@ -148,3 +148,42 @@ records_few (suc k) l = go (eqb (length l) 0) (records_few k (drop (size_of l) l
 pub count_few : (xs : List ℕ) → length (delivered xs) ≤ 64
 unfolding delivered
 count_few xs = records_few 64 xs
+
+-- The same by what is left of the packet.
+pub record Resting (xs rest : List ℕ) (n : ℕ) : Type 0 where
+  pub at : ℕ
+  pub walking : Walking xs at n
+  pub is : rest ≡ drop at xs
+
+pub rest_begins : (xs : List ℕ) → Resting xs xs 0
+rest_begins xs = record { at = 0; walking = walk_begins xs; is = refl }
+
+module _ {xs rest : List ℕ} {n : ℕ} (v : Resting xs rest n) where
+  size_is : length rest ≡ length xs - v.at
+  size_is = ap length v.is ∙ length-drop v.at xs
+
+  -- nothing is left
+  pub rest_ends : true ≡ eqb (length rest) 0 → n ≡ count_of xs
+  rest_ends e = walk_ends v.walking (omega (arith, size_is, eqb-true (length rest) 0 (sym e)))
+
+  module _ (some : false ≡ eqb (length rest) 0) where
+    inside : v.at < length xs
+    inside = omega (arith, size_is, eqb-false (length rest) 0 (sym some))
+
+    -- a 65th
+    pub rest_many : n ≡ 64 → 65 ≡ count_of xs
+    rest_many e = walk_many v.walking inside e
+
+    module _ (more : n < 64) where
+      -- a cut one
+      pub rest_cut : length rest < size_of rest → 65 ≡ count_of xs
+      rest_cut h = walk_cut v.walking inside more (omega (arith, size_is, h, ap size_of v.is))
+
+      -- the next
+      pub rest_on : {rest' : List ℕ} → size_of rest ≤ length rest → rest' ≡ drop (size_of rest) rest → Resting xs rest' (n + 1)
+      rest_on h e =
+          record {
+            at = v.at + size_of (drop v.at xs);
+            walking = walk_on v.walking inside more (omega (arith, size_is, h, ap size_of v.is));
+            is = e ∙ (λ i. drop (size_of (v.is i)) (v.is i)) ∙ drop-drop (size_of (drop v.at xs)) v.at xs;
+          }

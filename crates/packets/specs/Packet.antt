@@ -1,8 +1,9 @@
 -- A packet of records (document 02, ask 8): up to 64 of them, one behind another. Each has time 4 octets; mark, key length, release,
 -- version, extension, format and TS number 1 each; body length 4; then the key, then the body. The lengths frame it, whatever else it
 -- says. A cut record, or a 65th, is 11 for the whole packet. Octets that are not there count as 0. Assumes nothing.
-use Rattle.std.specs.Prelude.{Bool, cond, not, ◌&&◌, ◌||◌, List, [], ◌∷◌, ◌++◌, ℕ, zero, suc, ◌+◌, leb, eqb, length, get_or, take, drop}
+use Rattle.std.specs.Prelude.{Bool, cond, not, ◌&&◌, ◌||◌, List, [], ◌∷◌, ◌++◌, ℕ, zero, suc, ◌+◌, leb, eqb, length, get_or, take, drop, Result, Ok, Err}
 use Rattle.octets.specs.Number.{be, num}
+use Rattle.refusals.specs.declared.Refusal.{Refusal}
 use Rattle.events.specs.declared.Arrival.{Arrival}
 
 -- what a record of a packet says: the arguments of a RECEIVE
@@ -67,3 +68,8 @@ packet_octets (d ∷ ds) = record_octets d ++ packet_octets ds
 -- what the call that counts a packet's records answers
 abbrev pub count_of : List ℕ → ℕ
 count_of xs = cond (wrong_packet xs) 65 (length (delivered xs))
+
+-- as the code answers it: refused, or their number
+abbrev pub counted : Result ℕ Refusal → ℕ
+counted (Ok n) = n
+counted (Err refusal) = 65

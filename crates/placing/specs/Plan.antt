@@ -21,7 +21,6 @@ use Rattle.state.specs.Regions.{region_within, regions_all}
 use Rattle.events.specs.declared.Arrival.{Arrival}
 use Rattle.events.specs.Rules.{opened_route, closed_route, high_with, low_with, appended_route, differs, exceeds, full, header_for, record_size}
 use Rattle.events.specs.Receive.{is_lost, turns, turn_reason, ready, holding}
-use Rattle.placing.specs.declared.Plan.{Plan}
 
 -- the fields of a record that can be placed are within their widths
 pub record Usable (a : Arrival) : Type 0 where
@@ -33,6 +32,15 @@ pub record Usable (a : Arrival) : Type 0 where
 -- the route with an open file for the record
 abbrev pub readied : Route → Bool → ℕ → Route
 readied r b t = cond b (opened_route (closed_route r) t) (cond r.«open» r (opened_route r t))
+
+-- what a placed record does to its route: whether it closes the open file first, and with which reason; how many octets of records stand
+-- before it in the file that takes it; the route with it in that file; and whether this fills the file
+pub record Plan : Type 0 where
+  pub turns : Bool
+  pub reason : ℕ
+  pub used : ℕ
+  pub holding : Route
+  pub fills : Bool
 
 abbrev pub planned : Route → Arrival → ℕ → ℕ → Plan
 planned r a body t =

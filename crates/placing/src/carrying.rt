@@ -1,15 +1,17 @@
 // Carrying a plan out (document 01, The events): the file that the record turns over closes, the record is written to the
 // store, and the file that it fills closes.
-ghost use Rattle.std.specs.Prelude.{◌≡◌, true, ◌<◌};
+ghost use Rattle.std.specs.Prelude.{◌≡◌, true, ◌<◌, is_some};
 ghost use Rattle.octets.specs.Splice.{splice};
 ghost use Rattle.filing.specs.Closing.{lost_octet};
 ghost use Rattle.filing.specs.Needs.{Closable};
 ghost use Rattle.placing.specs.Files.{closed_if, size_if};
 ghost use Rattle.placing.specs.Made.{Carried, CarriedOut};
+ghost use Rattle.placing.specs.Views.{reason_of, plan_of};
 
-use crate::Plan;
+use crate::{Plan, Target};
+use filing::Reason;
 use record::RecordHeader;
-use state::{Node, Route};
+use state::Route;
 
 // The octets of the route's file where it closes, else none.
 pub fn size_if(closes: bool, r: Route) -> usize
@@ -18,67 +20,62 @@ pub fn size_if(closes: bool, r: Route) -> usize
     if closes { events::closed_size(r) } else { 0 }
 }
 
-// Closes the route's file with a reason over the output from `at` on, where it closes. Its records stand in the store from `base` on.
-fn close_if(
-    closes: bool,
-    n: Node,
-    r: Route,
-    reason: u8,
-    store: &[u8],
-    base: usize,
-    output: &mut [u8],
-    at: usize,
-)
-    requires { closes ≡ true → Closable n r (lost_octet r) store.now base output.old at }
-    ensures { output.new ≡ splice output.old at (closed_if closes n r reason store.now base) }
-{
-    if closes {
-        filing::close_file(n, r, reason, store, base, output, at);
+impl Target {
+    // Closes the route's file over the output from `at` on, where there is a reason to. Its records stand in the region.
+    fn close_if(self, reason: Option<Reason>, store: &[u8], output: &mut [u8], at: usize)
+        requires { is_some reason ≡ true → Closable self.node self.route (lost_octet self.route) store.now self.from output.old at }
+        ensures { output.new ≡ splice output.old at (closed_if (is_some reason) self.node self.route (reason_of reason) store.now self.from) }
+    {
+        if let Some(reason) = reason {
+            let number = reason.number();
+            filing::close_file(self.node, self.route, number, store, self.from, output, at);
+        }
     }
-}
 
-// Carries out a plan for r, whose region starts at `from`: the file that closes before the record, the record, and the file that it
-// fills, each where the plan has it, one behind another.
-fn close_around(
-    n: Node,
-    from: usize,
-    store: &mut [u8],
-    output: &mut [u8],
-    r: Route,
-    p: Plan,
-    h: RecordHeader,
-    body: &[u8],
-)
-    requires { Carried n from store.old output.old r p h body.now }
-    ensures { CarriedOut n from store.old output.old r p h body.now store.new output.new }
-{
-    let at = size_if(p.turns, r);
-    let limit = r.settings.limit as usize;
-    let used = p.used as usize;
-    close_if(p.turns, n, r, p.reason, store, from, output, 0);
-    filing::append(store, from, limit, used, h, body);
-    close_if(p.fills, n, p.holding, 3, store, from, output, at);
-}
+    // Carries out a plan: the file that closes before the record, the record, and the file that it fills, each where the plan has it, one
+    // behind another.
+    fn close_around(
+        self,
+        store: &mut [u8],
+        output: &mut [u8],
+        p: Plan,
+        h: RecordHeader,
+        body: &[u8],
+    )
+        requires { Carried self.node self.from store.old output.old self.route (plan_of p) h body.now }
+        ensures { CarriedOut self.node self.from store.old output.old self.route (plan_of p) h body.now store.new output.new }
+    {
+        let at = size_if(p.turn.is_some(), self.route);
+        let limit = self.route.settings.limit as usize;
+        let used = p.used as usize;
+        self.close_if(p.turn, store, output, 0);
+        filing::append(store, self.from, limit, used, h, body);
+        let full = p.fills.then_some(Reason::MostRecords);
+        let filled = Target {
+            route: p.holding,
+            ..self
+        };
+        filled.close_if(full, store, output, at);
+    }
 
-// The same. Most records close nothing and are only appended: they do not pay for node and routes laid out in memory, as a closing
-// is given them.
-pub fn carry_out(
-    n: Node,
-    from: usize,
-    store: &mut [u8],
-    output: &mut [u8],
-    r: Route,
-    p: Plan,
-    h: RecordHeader,
-    body: &[u8],
-)
-    requires { Carried n from store.old output.old r p h body.now }
-    ensures { CarriedOut n from store.old output.old r p h body.now store.new output.new }
-{
-    if p.turns | p.fills {
-        close_around(n, from, store, output, r, p, h, body);
-    } else {
-        let limit = r.settings.limit as usize;
-        filing::append(store, from, limit, p.used as usize, h, body);
+    // The same. Most records close nothing and are only appended: they do not pay for node and routes laid out in memory, as a closing
+    // is given them.
+    pub(crate) fn carry_out(
+        self,
+        store: &mut [u8],
+        output: &mut [u8],
+        p: Plan,
+        h: RecordHeader,
+        body: &[u8],
+    )
+        requires { Carried self.node self.from store.old output.old self.route (plan_of p) h body.now }
+        ensures { CarriedOut self.node self.from store.old output.old self.route (plan_of p) h body.now store.new output.new }
+    {
+        if p.turn.is_some() || p.fills {
+            self.close_around(store, output, p, h, body);
+        } else {
+            let limit = self.route.settings.limit as usize;
+            filing::append(store, self.from, limit, p.used as usize, h, body);
+        }
     }
 }

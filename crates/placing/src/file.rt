@@ -2,31 +2,31 @@
 // it is with the record.
 ghost use Rattle.std.specs.Prelude.{◌≡◌, ◌+◌, ◌≤◌, ◌<◌, ◌^◌};
 ghost use Rattle.events.specs.Rules.{high_with, low_with, appended_route, differs, exceeds, full};
+ghost use Rattle.placing.specs.Joining.{joined_route};
 
 use record::{RecordHeader, Release};
 use state::{OpenFile, Route};
 
 // High and low of a file with one record more; an empty file takes the record's release, whatever was configured.
-fn high_with(f: OpenFile, r: Release) -> Release
-    ensures { result ≡ high_with f r }
+fn range_with(f: OpenFile, r: Release) -> (Release, Release)
+    ensures high { result.0 ≡ high_with f r }
+    ensures low { result.1 ≡ low_with f r }
 {
     if f.count == 0 {
-        return r;
+        return (r, r);
     }
-    let high = record::rank_of(f.high);
     let new = record::rank_of(r);
-    if high < new { r } else { f.high }
-}
-
-fn low_with(f: OpenFile, r: Release) -> Release
-    ensures { result ≡ low_with f r }
-{
-    if f.count == 0 {
-        return r;
-    }
-    let low = record::rank_of(f.low);
-    let new = record::rank_of(r);
-    if new < low { r } else { f.low }
+    let high = if record::rank_of(f.high) < new {
+        r
+    } else {
+        f.high
+    };
+    let low = if new < record::rank_of(f.low) {
+        r
+    } else {
+        f.low
+    };
+    (high, low)
 }
 
 // Whether the record closes the open file with 5: the file has records, and another format, or, with the flag, another release.
@@ -36,47 +36,56 @@ pub fn does_differ(r: Route, h: RecordHeader) -> bool
     let f = r.file;
     let high = record::rank_of(f.high);
     let new = record::rank_of(h.release);
-    r.open & (0 < f.count) & (!(f.format == h.format) | ((r.settings.flag == 1) & !(high == new)))
+    r.open && 0 < f.count && (f.format != h.format || r.settings.flag == 1 && high != new)
 }
 
 // Whether the open file with the record, of so many octets, would exceed the size limit. Its header is that of the new high and
-// low.
+// low. That they are at most 65,539 is asked in three clauses: a struct of one number
+// is no plainer.
 pub fn does_exceed(r: Route, h: RecordHeader, octets: usize) -> bool
     requires { octets ≤ 65539 }
     ensures { result ≡ exceeds r h octets }
 {
     let f = r.file;
-    let high = high_with(f, h.release);
-    let low = low_with(f, h.release);
+    let (high, low) = range_with(f, h.release);
     let header = state::header_size(r.settings.octets, high, low);
-    r.open & ((r.settings.limit as usize) < header as usize + f.octets as usize + octets)
+    r.open && (r.settings.limit as usize) < header as usize + f.octets as usize + octets
 }
 
-// The route with the record, of so many octets, in its file.
-pub fn appended_route(mut r: Route, h: RecordHeader, octets: u32, t: u32) -> Route
+// The route with one record more, of so many octets, in its file, which has such records already.
+pub fn joined_route(r: Route, octets: u32, t: u32) -> Route
+    requires { (r.file.count + 1 < 2 ^ 32) × (r.file.octets + octets < 2 ^ 32) }
+    ensures { result ≡ joined_route r octets t }
+{
+    let f = r.file;
+    let file = OpenFile {
+        appended: t,
+        count: f.count + 1,
+        octets: f.octets + octets,
+        ..f
+    };
+    Route { file, ..r }
+}
+
+// The route with any record in its file.
+pub fn appended_route(r: Route, h: RecordHeader, octets: u32, t: u32) -> Route
     requires { (r.file.count + 1 < 2 ^ 32) × (r.file.octets + octets < 2 ^ 32) }
     ensures { result ≡ appended_route r h octets t }
 {
-    let f = r.file;
-    let high = high_with(f, h.release);
-    let low = low_with(f, h.release);
+    let (high, low) = range_with(r.file, h.release);
+    let q = joined_route(r, octets, t);
     let file = OpenFile {
-        sequence: f.sequence,
-        opened: f.opened,
-        appended: t,
-        high: high,
-        low: low,
+        high,
+        low,
         format: h.format,
-        count: f.count + 1,
-        octets: f.octets + octets,
+        ..q.file
     };
-    r.file = file;
-    r
+    Route { file, ..q }
 }
 
 // Whether the file's count equals its limit: it closes with 3.
 pub fn is_full(r: Route) -> bool
     ensures { result ≡ full r }
 {
-    (0 < r.settings.most) & (r.file.count == r.settings.most)
+    0 < r.settings.most && r.file.count == r.settings.most
 }

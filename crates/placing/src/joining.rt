@@ -6,19 +6,13 @@ ghost use Rattle.record.specs.Record.{record_octets};
 ghost use Rattle.events.specs.Rules.{header_for, record_size};
 ghost use Rattle.events.specs.Receive.{record_of};
 ghost use Rattle.placing.specs.Plan.{Suitable};
-ghost use Rattle.placing.specs.Joining.{same_fields, joins, joined_route};
+ghost use Rattle.placing.specs.Joining.{joins, joined_route};
 
+use crate::file::joined_route;
 use crate::planning::header_for;
 use events::Arrival;
-use record::{RecordHeader, Release};
-use state::{OpenFile, Route};
-
-// Whether two releases are the same.
-fn is_same(a: Release, b: Release) -> bool
-    ensures { result ≡ same_fields a b }
-{
-    (a.release == b.release) & ((a.extension == b.extension) & (a.version == b.version))
-}
+use record::RecordHeader;
+use state::Route;
 
 // Whether a record of this header and so many octets is like the records of the open file, which are of one release, and neither turns the
 // file over nor fills it.
@@ -27,8 +21,8 @@ fn is_like(r: Route, h: RecordHeader, octets: usize) -> bool
     ensures { result ≡ joins r h octets }
 {
     let f = r.file;
-    let high = is_same(f.high, h.release);
-    let low = is_same(f.low, h.release);
+    let high = f.high == h.release;
+    let low = f.low == h.release;
     let header = state::header_size(r.settings.octets, h.release, h.release);
     let size = header as usize + f.octets as usize + octets;
     r.open
@@ -40,7 +34,9 @@ fn is_like(r: Route, h: RecordHeader, octets: usize) -> bool
                             & !(f.count as usize + 1 == r.settings.most as usize))))))
 }
 
-// Whether a record with so many octets of body joins the open file.
+// Whether a record with so many octets of body joins the open file. The test stands beside `join`, which needs it: it is made once. Route,
+// arrival, body and time stay apart, with what makes them suitable in a clause: in a struct the definitions, which take them one by one, would
+// name each by its place, which is no plainer.
 pub fn does_join(r: Route, a: Arrival, body: usize, t: u32) -> bool
     requires { Suitable r a body t }
     ensures { result ≡ joins r (header_for a) (record_size a body) }
@@ -48,28 +44,6 @@ pub fn does_join(r: Route, a: Arrival, body: usize, t: u32) -> bool
     let h = header_for(a);
     let octets = record::header_length_of(h.release) + body;
     is_like(r, h, octets)
-}
-
-// The route with such a record, of so many octets.
-fn joined_route(mut r: Route, octets: u32, t: u32) -> Route
-    requires { (r.file.count + 1 < 2 ^ 32) × (r.file.octets + octets < 2 ^ 32) }
-    ensures { result ≡ joined_route r octets t }
-{
-    let f = r.file;
-    let high = f.high;
-    let low = f.low;
-    let file = OpenFile {
-        sequence: f.sequence,
-        opened: f.opened,
-        appended: t,
-        high: high,
-        low: low,
-        format: f.format,
-        count: f.count + 1,
-        octets: f.octets + octets,
-    };
-    r.file = file;
-    r
 }
 
 // Puts such a record behind those of the open file of r, whose region starts at `from`; the route that is left.

@@ -1,23 +1,40 @@
 -- The frame of a file: what refusals 8 and 9 judge and the places that follow from it, with the cases that the code meets.
 -- Assumes nothing.
 use Rattle.std.proofs.Math.Path.{◌≡◌, sym, ap}
-use Rattle.std.specs.Prelude.{refl, Bool, ◌||◌, List, ℕ, zero, suc, ◌+◌, ◌-◌, ◌≤◌, ◌<◌, eqb, length, get_or, take, drop}
+use Rattle.std.specs.Prelude.{refl, Bool, ◌||◌, List, ℕ, zero, suc, ◌+◌, ◌-◌, ◌≤◌, ◌<◌, eqb, length, get_or, take, drop, Result, Ok, Err}
 use Rattle.std.proofs.Common.{◌∙◌, arith}
 use Rattle.std.proofs.Math.Bool.{true, false, cond, not}
 use Rattle.std.proofs.Math.Dec.{ltb}
 use borrow.Author.Tests.{lt-ltb, le-ltb, eq-eqb, ne_eqb, ltb-false, eqb-true, not-false}
 use Rattle.octets.specs.Number.{num}
+use Rattle.refusals.specs.declared.Refusal.{Refusal}
+use Rattle.refusals.specs.Number.{number}
 use Rattle.refusals.specs.Refusal.{first, or_left, or_right, or_false, both_false}
-use Rattle.record.specs.declared.Tallied.{Tallied}
-use Rattle.record.specs.Walk.{tally_of, part_from}
+use Rattle.record.specs.Walk.{Tallied, tally_of, part_from}
 use Rattle.cdrfile.specs.declared.Header.{Header}
-use Rattle.reader.specs.declared.Frame.{Frame}
+use Rattle.reader.specs.declared.Lengths.{Lengths}
 use Rattle.reader.specs.declared.Part.{Part}
 use Rattle.reader.specs.Places.{header_length_at, filter_length_at, extensions_of, plain_length, has_private, private_length_at, private_part, statement_at, extensions_at, header_at}
 use Rattle.reader.specs.Reader.{wrong_length, wrong_header_length, wrong_value, wrong_records, header_of, body_of, verdict, refused_contents, contents_of, settled, read_of}
 
+-- the frame: refusal 0 with the header's length, the filter's, what they state of a private extension and its part; or 8 or 9 with zeros
+pub record Frame : Type 0 where
+  pub refusal : ℕ
+  pub header : ℕ
+  pub filter : ℕ
+  pub statement : ℕ
+  pub private : Part
+
 abbrev pub refused_frame : ℕ → Frame
 refused_frame n = record { refusal = n; header = 0; filter = 0; statement = 0; private = record { start = 0; octets = 0 } }
+
+-- the same of what the code finds, and of its answer
+abbrev pub frame_found : Lengths → Frame
+frame_found l = record { refusal = 0; header = l.header; filter = l.filter; statement = l.statement; private = l.private }
+
+abbrev pub framed : Result Lengths Refusal → Frame
+framed (Ok l) = frame_found l
+framed (Err r) = refused_frame (number r)
 
 abbrev pub frame_at : List ℕ → Frame
 frame_at xs = record { refusal = 0; header = header_length_at xs; filter = filter_length_at xs; statement = statement_at xs; private = private_part xs }

@@ -1,14 +1,15 @@
 -- The reader's verdict over any octets (document 01, Reader and Refusals): the first of 8 to 13 in order whose condition
 -- holds, or what the file holds. Which octets document 01 describes is said apart from this (roundtrip, Described.antt, by the layout in
 -- cdrfile, File.antt); that the reader accepts just these is demand 2.
-use Rattle.std.specs.Prelude.{Bool, cond, not, ◌&&◌, ◌||◌, List, [], ◌∷◌, ℕ, zero, suc, ◌+◌, ◌-◌, eqb, ltb, leb, length, take, drop, replicate}
+use Rattle.std.specs.Prelude.{Bool, cond, not, ◌&&◌, ◌||◌, List, [], ◌∷◌, ℕ, zero, suc, ◌+◌, ◌-◌, eqb, ltb, leb, length, take, drop, replicate, Result, Ok, Err}
 use Rattle.octets.specs.Number.{num}
+use Rattle.refusals.specs.declared.Refusal.{Refusal}
+use Rattle.refusals.specs.Number.{number}
 use Rattle.refusals.specs.Refusal.{Rule, ◌when◌, first}
 use Rattle.timestamp.specs.declared.Timestamp.{Timestamp}
 use Rattle.timestamp.specs.Timestamp.{right}
 use Rattle.record.specs.declared.Release.{Release}
-use Rattle.record.specs.declared.Tallied.{Tallied}
-use Rattle.record.specs.Walk.{tally_of}
+use Rattle.record.specs.Walk.{Tallied, tally_of}
 use Rattle.cdrfile.specs.declared.Header.{Header}
 use Rattle.cdrfile.specs.Order.{wrong_order}
 use Rattle.reader.specs.declared.Contents.{Contents}
@@ -81,6 +82,11 @@ nowhere = record { start = 0; octets = 0 }
 abbrev pub refused_contents : ℕ → Contents
 refused_contents n =
     record { refusal = n; header = no_header; filter = nowhere; private = nowhere; records = nowhere; count = 0 }
+
+-- the call's answer from what its code finds, or why it refuses
+abbrev pub answer_of : Result Contents Refusal → Contents
+answer_of (Ok c) = c
+answer_of (Err r) = refused_contents (number r)
 
 -- what an accepted file holds: the header's fields, and where its filter, private octets and records stand
 abbrev pub contents_of : List ℕ → Contents

@@ -7,9 +7,8 @@ use Rattle.refusals.specs.Refusal.{Rule, ◌when◌, first, passed, or_false}
 use Rattle.state.specs.declared.Node.{Node}
 use Rattle.state.specs.declared.Route.{Route}
 use Rattle.state.specs.Manager.{Manager}
-use Rattle.state.specs.declared.Routed.{Routed}
 use Rattle.state.specs.Manager.{route_at, node_of, base, regions, effective}
-use Rattle.state.specs.Routing.{nobody, route_of}
+use Rattle.state.specs.Routing.{Routed, nobody, route_of}
 use Rattle.state.specs.Longest.{longest_found}
 use Rattle.state.specs.Bounds.{state_right}
 use Rattle.events.specs.declared.Arrival.{Arrival}
@@ -17,7 +16,9 @@ use Rattle.events.specs.Rules.{opened_route, closed_route, full, wrong_fields, r
 use Rattle.events.specs.Events.{Outcome, After, after, changed, refused, settled}
 use Rattle.state.specs.Common.{common}
 use Rattle.events.specs.Receive.{is_lost, turns, holding, finished, store_with, needed, unrouted_full, counters_full, taken, placed_size, placed_files, unrouted, lost_at, placed_at, receive_of}
-use Rattle.placing.specs.Plan.{Usable}
+use Rattle.state.specs.Common.{judged, early_common}
+use Rattle.state.specs.Within.{within}
+use Rattle.placing.specs.Plan.{Usable, PlaceableAt}
 use Rattle.placing.specs.Made.{Left, place_of, placed_there}
 
 -- with mark 1 the fields of a record are not judged
@@ -306,3 +307,21 @@ module _ (r : Route) (t : ℕ) (opened : r.file.opened < 2147483648) (early : t 
       go : (b : Bool) → (cond b (closed_route (holding r a body t)) (holding r a body t)).file.opened < 2147483648
       go true = omega arith
       go false = ready_opened (turns r a body) r.«open»
+
+-- A routed record that is not lost, behind the refusals before 17, can be placed on its route.
+pub placeable_there : (m : Manager) (store output : List ℕ) (time : ℕ) (a : Arrival) (key body : List ℕ) → first (judged m (length store) []) ≡ 0 → time ≤ 52595999
+    → wrong_fields a (length key) ≡ false → {to : Routed} → to ≡ routed_to m a key → to.found ≡ true → {t : ℕ} → t ≡ effective m time
+    → is_lost m a to.at (length body) ≡ false → PlaceableAt m (length store) t a (length body) to.at
+placeable_there m store output time a key body judgement low fields {to} r f et placed =
+    let p = early_common m (length store) time judgement low in
+    let right = state_right_lem m store output time a key body p in
+    let w = within m right in
+    let g = routed m a key r f in
+    record {
+      right = right;
+      inside = g.1;
+      usable = usable a (length key) fields g.0 (unmarked m a to.at (length body) placed);
+      placed = placed;
+      regions = long_store m store output time a key body p;
+      time = omega (arith, et, w.last, low);
+    }

@@ -6,14 +6,17 @@ mod pass;
 ghost use Rattle.std.specs.Prelude.{◌≡◌, [], length};
 ghost use Rattle.refusals.specs.Refusal.{first};
 ghost use Rattle.state.specs.Common.{judged};
-ghost use Rattle.state.specs.Routing.{Routable};
+ghost use Rattle.state.specs.Routing.{Routable, routed_of};
 ghost use Rattle.words.specs.Words.{manager_in};
+ghost use Rattle.events.specs.Answering.{answer_of};
 ghost use Rattle.events.specs.Rules.{wrong_fields, routed_to, compared_to};
 ghost use Rattle.events.specs.Lent.{left, receive_on};
 
-use events::{Answer, Arrival};
+use events::{Answer, Arrival, Outcome, accept, answer_of, refuse};
+use placing::Target;
+use refusals::Refusal;
 use routing::Counted;
-use state::Routed;
+use words::Words;
 
 // Whether the mark, the key's length or the record's fields are wrong: refusal 5.
 fn wrong_fields(a: Arrival, key: usize) -> bool
@@ -30,18 +33,13 @@ fn wrong_fields(a: Arrival, key: usize) -> bool
 }
 
 // Where a record goes, and what that took: mark 2 says that nothing is to be trusted, so that nothing is compared.
-fn routed_to(words: &[u32], a: Arrival, key: &[u8]) -> Counted
-    requires { (length words.now ≡ 360) × Routable (manager_in words.now) }
-    ensures { (result.routed ≡ routed_to (manager_in words.now) a key.now) × (result.compared ≡ compared_to (manager_in words.now) a key.now) }
+fn routed_to(words: &Words, a: Arrival, key: &[u8]) -> Counted
+    requires { Routable (manager_in words.now) }
+    ensures { (routed_of result.routed ≡ routed_to (manager_in words.now) a key.now) × (result.compared ≡ compared_to (manager_in words.now) a key.now) }
 {
     if a.mark == 2 {
-        let nobody = Routed {
-            found: false,
-            at: 0,
-            octets: 0,
-        };
         return Counted {
-            routed: nobody,
+            routed: None,
             compared: 0,
         };
     }
@@ -60,19 +58,33 @@ pub fn receive(
 ) -> Answer
     ensures { left result words.new store.new output.new ≡ receive_on words.old store.old output.old time a key.now body.now }
 {
-    if words.len() != 360 {
-        return events::refuse(18, 0);
-    }
-    let number = judging::state_refusal(words, store.len());
-    if number != 0 {
-        return events::refuse(number, 0);
-    }
-    take(words, store, output, time, a, key, body)
+    let Some(words) = words.as_mut_array::<360>() else {
+        return refuse(Refusal::State);
+    };
+    answer_of(receive_in(words, store, output, time, a, key, body))
 }
 
-// The same on a state and a store that were judged: 18 and 16 do not apply.
+// The same, on as many words as a state has. What is lent and what the record says stay apart, as C gives them: of structs of them contracts would
+// name each by its place, which is no plainer.
+fn receive_in(
+    words: &mut Words,
+    store: &mut [u8],
+    output: &mut [u8],
+    time: u32,
+    a: Arrival,
+    key: &[u8],
+    body: &[u8],
+) -> Result<Answer, Refusal>
+    ensures { left (answer_of result) words.new store.new output.new ≡ receive_on words.old store.old output.old time a key.now body.now }
+{
+    judging::judge_state(words, store.len())?;
+    Ok(take(words, store, output, time, a, key, body))
+}
+
+// The same on a state and a store that were judged: 18 and 16 do not apply. That is said of what two `&mut` point to, between whose writes it does
+// not hold: so it is a clause, and no type keeps it.
 pub fn take(
-    words: &mut [u32],
+    words: &mut Words,
     store: &mut [u8],
     output: &mut [u8],
     time: u32,
@@ -80,21 +92,37 @@ pub fn take(
     key: &[u8],
     body: &[u8],
 ) -> Answer
-    requires { (length words.old ≡ 360) × (first (judged (manager_in words.old) (length store.old) []) ≡ 0) }
+    requires { first (judged (manager_in words.old) (length store.old) []) ≡ 0 }
     ensures { left result words.new store.new output.new ≡ receive_on words.old store.old output.old time a key.now body.now }
 {
+    answer_of(take_in(words, store, output, time, a, key, body))
+}
+
+// The same, with what refuses it.
+fn take_in(
+    words: &mut Words,
+    store: &mut [u8],
+    output: &mut [u8],
+    time: u32,
+    a: Arrival,
+    key: &[u8],
+    body: &[u8],
+) -> Result<Answer, Refusal>
+    requires { first (judged (manager_in words.old) (length store.old) []) ≡ 0 }
+    ensures { left (answer_of result) words.new store.new output.new ≡ receive_on words.old store.old output.old time a key.now body.now }
+{
     if 52595999 < time {
-        return events::refuse(4, 0);
+        return Err(Refusal::Time);
     }
     if wrong_fields(a, key.len()) {
-        return events::refuse(5, 0);
+        return Err(Refusal::Fields);
     }
     let t = state::effective_time(words[6], time);
     let to = routed_to(words, a, key);
-    if !to.routed.found {
+    let Some(found) = to.routed else {
         return pass::unrouted(words, t, to.compared);
-    }
-    let i = to.routed.at as usize;
+    };
+    let i = found.at as usize;
     let r = words::route_at(words, i);
     if pass::is_lost(r.settings, a, body.len()) {
         return pass::lost(words, t, i, r, to.compared);
@@ -104,13 +132,14 @@ pub fn take(
     if placing::does_join(r, a, body.len(), t) {
         let joined = placing::join(from, r, store, t, a, body);
         words::put(words, i, joined, t);
-        return events::accept(2, to.routed.at, 0, 0, to.compared);
+        return Ok(accept(Outcome::Placed, found.at, 0, 0, to.compared));
     }
-    let n = words::node_of(words);
-    let p = placing::place(n, from, r, store, output, t, a, body);
-    if !p.fits {
-        return events::refuse(17, p.octets);
-    }
+    let target = Target {
+        node: words::node_of(words),
+        from,
+        route: r,
+    };
+    let p = target.place(store, output, t, a, body)?;
     words::put(words, i, p.route, t);
-    events::accept(2, to.routed.at, p.files, p.octets, to.compared)
+    Ok(accept(Outcome::Placed, found.at, p.files, p.octets, to.compared))
 }

@@ -2,13 +2,17 @@
 -- body; what the files' headers say does not count. For each distinct record the number in both is the smaller of its two multiplicities (`in_both`), and
 -- the number only in one file is that by which its multiplicity there exceeds the other (`only_in`); the order of the records plays no part. Refusal 23: a
 -- file that the reader refuses, with its side (1 or 2) and the reader's number; the first file is tested before the second, and all else is 0.
-use Rattle.std.specs.Prelude.{Bool, true, false, ◌&&◌, List, [], ◌∷◌, map, ℕ, zero, suc, eqb}
+use Rattle.std.specs.Prelude.{Bool, true, false, ◌&&◌, List, [], ◌∷◌, map, ℕ, zero, suc, eqb, Result, Ok, Err}
 use Rattle.record.specs.Record.{record_octets}
 use Rattle.reader.specs.Reader.{read_of}
 use Rattle.roundtrip.specs.Handed.{handed_back}
 use Rattle.multisets.specs.InBoth.{in_both}
 use Rattle.multisets.specs.Surplus.{only_in}
 use Rattle.reconcile.specs.declared.Reconciled.{Reconciled}
+use Rattle.reconcile.specs.declared.Shares.{Shares}
+use Rattle.reconcile.specs.declared.Refused.{Refused}
+use Rattle.reconcile.specs.declared.Side.{Side}
+use Rattle.reconcile.specs.declared.Side.TheVariants.{First, Second}
 
 -- whether two records have the same octets
 abbrev pub equal_octets : List ℕ → List ℕ → Bool
@@ -49,3 +53,12 @@ by_first (suc n) first second = refused_side 1 (suc n)
 -- THE DEFINITION: any two files
 unfoldable pub reconciled_of : List ℕ → List ℕ → Reconciled
 reconciled_of first second = by_first (read_of first).refusal first second
+
+-- The code's answer: what two accepted files share, or the side that is refused and the reader's number.
+abbrev pub side_number : Side → ℕ
+side_number First = 1
+side_number Second = 2
+
+abbrev pub reconciled : Result Shares Refused → Reconciled
+reconciled (Ok s) = record { refusal = 0; side = 0; number = 0; both = s.both; first = s.first; second = s.second }
+reconciled (Err r) = refused_side (side_number r.side) r.number

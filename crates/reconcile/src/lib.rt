@@ -2,15 +2,18 @@
 // each file are sorted by their octets, as offsets, and a walk over both lists counts those that they share.
 #![tactic(auto)]
 
-ghost use Rattle.std.specs.Prelude.{◌≡◌, ◌≤◌, length, take};
+ghost use Rattle.std.specs.Prelude.{◌≡◌, ◌≢◌, ◌≤◌, length, take, IfOk, IfErr};
 ghost use Rattle.recordorder.specs.At.{comes_before};
 ghost use Rattle.offsets.specs.Offsets.{offsets_of};
 ghost use Rattle.multisets.specs.Merge.{Arranged};
+ghost use Rattle.reader.specs.Reader.{read_of};
 ghost use Rattle.reconcile.specs.Shares.{shares_of};
-ghost use Rattle.reconcile.specs.Reconciled.{refused_side, reconciled_of};
+ghost use Rattle.reconcile.specs.Reconciled.{reconciled_of, reconciled, side_number};
+
+use refusals::Refusal;
 
 // The answer: `refusal` is 0, or 23 with the `side`, 1 or 2, and the reader's `number`; then how many records are in both files, only in the first and only
-// in the second, zeros where refused.
+// in the second, zeros where refused. C reads this struct: numbers and not a Result with an enum.
 #[repr(C)]
 #[derive(Clone, Copy)]
 pub struct Reconciled {
@@ -30,130 +33,137 @@ struct Shares {
     second: usize,
 }
 
-// Files of at most so many records are counted in little room.
+// One of the two files.
+#[derive(Clone, Copy)]
+enum Side {
+    First,
+    Second,
+}
+
+// Refusal 23: the reader refuses the file of this side with this number.
+#[derive(Clone, Copy)]
+struct Refused {
+    side: Side,
+    number: u8,
+}
+
+// A file that the reader accepts: where its records start, and how many they are.
+#[derive(Clone, Copy)]
+struct Accepted<'a> {
+    file: &'a [u8],
+    start: usize,
+    count: usize,
+    ghost inside: { start ≤ length file.now },
+    ghost short: { length file.now ≤ 1048576 },
+    ghost counted: { length (offsets_of file.now start) ≡ count },
+}
+
+// Files of at most so many records are counted in little room: clearing the most takes longer than to sort a thousand.
 const FEW: usize = 4096;
 
-// Room for the offsets of all records of a file of 1,048,576 octets, and of a few. It ensures nothing: the type says the length.
-fn room() -> [u32; 262144] {
-    [0; 262144]
+// A file of 1,048,576 octets has not more records.
+const MOST: usize = 262144;
+
+impl Side {
+    fn number(self) -> u8
+        ensures { result ≡ side_number self }
+    {
+        match self {
+            Side::First => 1,
+            Side::Second => 2,
+        }
+    }
 }
 
-fn small_room() -> [u32; 4096] {
-    [0; 4096]
+impl<'a> Accepted<'a> {
+    // The file of this side, or refusal 23 where the reader refuses it: the reader's call is one that C has, so its answer says so by a number.
+    fn read(side: Side, file: &'a [u8]) -> Result<Self, Refused>
+        ensures ok { IfOk result (λ r. ((read_of file.now).refusal ≡ 0) × (r.file.now ≡ file.now) × (r.start ≡ (read_of file.now).records.start)) }
+        ensures err { IfErr result (λ r. (r.side ≡ side) × (r.number ≡ (read_of file.now).refusal) × (r.number ≢ 0)) }
+    {
+        let contents = reader::read(file);
+        if contents.refusal != 0 {
+            return Err(Refused {
+                side,
+                number: contents.refusal,
+            });
+        }
+        Ok(Accepted {
+            file,
+            start: contents.records.start,
+            count: contents.count,
+        })
+    }
+
+    // Writes the offsets of the records, arranged by the records' octets.
+    fn arrange(self, out: &mut [u32]) -> usize
+        requires { self.count ≤ length out.old }
+        ensures { (result ≤ length out.old) × Arranged (comes_before self.entry.file.now) (offsets_of self.entry.file.now self.entry.start) (take result out.new) }
+    {
+        let n = offsets::place(self.file, self.start, out);
+        sorting::arrange(self.file, &mut out[..n]);
+        n
+    }
 }
 
-// Writes the offsets of the records from `from` on, arranged by the records' octets, and returns how many there are.
-fn arranged_offsets(file: &[u8], from: usize, out: &mut [u32], spare: &mut [u32]) -> usize
-    requires { (from ≤ length file.now) × (length file.now ≤ 1048576) × (length (offsets_of file.now from) ≤ length out.old) × (length out.old ≡ length spare.old) }
-    ensures { (result ≤ length out.old) × Arranged (comes_before file.now) (offsets_of file.now from) (take result out.new) }
+// What two files share, in room for at most N offsets of each.
+fn share_in<const N: usize>(f: Accepted<'_>, g: Accepted<'_>) -> Shares
+    requires small { N ≤ 262144 }
+    requires f_fits { f.count ≤ N }
+    requires g_fits { g.count ≤ N }
+    ensures { result ≡ shares_of f.entry.file.now f.entry.start g.entry.file.now g.entry.start }
 {
-    let n = offsets::place(file, from, out);
-    sorting::arrange(file, &mut out[..n], &mut spare[..n]);
-    n
-}
-
-// The records of f from a on and of g from b on; x, y and `spare` are lent to work in.
-fn share_in(
-    f: &[u8],
-    a: usize,
-    g: &[u8],
-    b: usize,
-    x: &mut [u32],
-    y: &mut [u32],
-    spare: &mut [u32],
-) -> Shares
-    requires a_in_bounds { (a ≤ length f.now) × (length f.now ≤ 1048576) × (length (offsets_of f.now a) ≤ length x.old) × (length x.old ≡ length spare.old) }
-    requires b_in_bounds { (b ≤ length g.now) × (length g.now ≤ 1048576) × (length (offsets_of g.now b) ≤ length y.old) × (length y.old ≡ length spare.old) }
-    ensures { result ≡ shares_of f.now a g.now b }
-{
-    let n = arranged_offsets(f, a, x, spare);
-    let m = arranged_offsets(g, b, y, spare);
-    let both = sharing::count_both(f, &x[..n], g, &y[..m]);
+    let mut x = [0; N];
+    let mut y = [0; N];
+    let n = f.arrange(&mut x);
+    let m = g.arrange(&mut y);
+    let both = sharing::count_both(f.file, &x[..n], g.file, &y[..m]);
     Shares {
-        both: both,
+        both,
         first: n - both,
         second: m - both,
     }
 }
 
-// The same with room of its own for any file: 3 MiB of the stack.
-fn share_many(f: &[u8], a: usize, g: &[u8], b: usize) -> Shares
-    requires a_in_bounds { (a ≤ length f.now) × (length f.now ≤ 1048576) }
-    requires b_in_bounds { (b ≤ length g.now) × (length g.now ≤ 1048576) }
-    ensures { result ≡ shares_of f.now a g.now b }
+// What two files share.
+fn share(f: Accepted<'_>, g: Accepted<'_>) -> Shares
+    ensures { result ≡ shares_of f.entry.file.now f.entry.start g.entry.file.now g.entry.start }
 {
-    let mut x = room();
-    let mut y = room();
-    let mut spare = room();
-    share_in(f, a, g, b, &mut x, &mut y, &mut spare)
-}
-
-// The same of files with few records: clearing 3 MiB takes longer than to sort a thousand.
-fn share_few(f: &[u8], a: usize, g: &[u8], b: usize) -> Shares
-    requires a_in_bounds { (a ≤ length f.now) × (length f.now ≤ 1048576) × (length (offsets_of f.now a) ≤ 4096) }
-    requires b_in_bounds { (b ≤ length g.now) × (length g.now ≤ 1048576) × (length (offsets_of g.now b) ≤ 4096) }
-    ensures { result ≡ shares_of f.now a g.now b }
-{
-    let mut x = small_room();
-    let mut y = small_room();
-    let mut spare = small_room();
-    share_in(f, a, g, b, &mut x, &mut y, &mut spare)
-}
-
-// The same of n records in the first file and m in the second.
-fn share(f: &[u8], a: usize, n: usize, g: &[u8], b: usize, m: usize) -> Shares
-    requires a_in_bounds { (a ≤ length f.now) × (length f.now ≤ 1048576) × (length (offsets_of f.now a) ≡ n) }
-    requires b_in_bounds { (b ≤ length g.now) × (length g.now ≤ 1048576) × (length (offsets_of g.now b) ≡ m) }
-    ensures { result ≡ shares_of f.now a g.now b }
-{
-    if n <= FEW {
-        if m <= FEW {
-            return share_few(f, a, g, b);
-        }
+    if f.count <= FEW && g.count <= FEW {
+        return share_in::<FEW>(f, g);
     }
-    share_many(f, a, g, b)
+    share_in::<MOST>(f, g)
 }
 
-// Refusal 23: the reader refuses the file of this side with this number.
-fn refused(side: u8, number: u8) -> Reconciled
-    ensures { result ≡ refused_side side number }
+// The first file is judged before the second.
+fn hold_together(first: &[u8], second: &[u8]) -> Result<Shares, Refused>
+    ensures { reconciled result ≡ reconciled_of first.now second.now }
 {
-    Reconciled {
-        refusal: 23,
-        side: side,
-        number: number,
-        both: 0,
-        first: 0,
-        second: 0,
-    }
+    let f = Accepted::read(Side::First, first)?;
+    let g = Accepted::read(Side::Second, second)?;
+    Ok(share(f, g))
 }
 
-// Two files of any content and length, their records counted by multiplicity. It needs 3 MiB of the stack (`share_many`).
+// Two files of any content and length, their records counted by multiplicity. It needs 2 MiB of the stack (`MOST`).
 pub fn reconcile(first: &[u8], second: &[u8]) -> Reconciled
     ensures { result ≡ reconciled_of first.now second.now }
 {
-    let c = reader::read(first);
-    if c.refusal != 0 {
-        return refused(1, c.refusal);
-    }
-    let d = reader::read(second);
-    if d.refusal != 0 {
-        return refused(2, d.refusal);
-    }
-    let s = share(
-        first,
-        c.records.start,
-        c.count,
-        second,
-        d.records.start,
-        d.count,
-    );
-    Reconciled {
-        refusal: 0,
-        side: 0,
-        number: 0,
-        both: s.both,
-        first: s.first,
-        second: s.second,
+    match hold_together(first, second) {
+        Ok(s) => Reconciled {
+            refusal: 0,
+            side: 0,
+            number: 0,
+            both: s.both,
+            first: s.first,
+            second: s.second,
+        },
+        Err(refused) => Reconciled {
+            refusal: Refusal::File.number(),
+            side: refused.side.number(),
+            number: refused.number,
+            both: 0,
+            first: 0,
+            second: 0,
+        },
     }
 }

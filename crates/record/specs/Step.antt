@@ -1,12 +1,13 @@
 -- A step over the part of a file that starts at the cursor (document 01, Reader): a whole record with its lengths, or 11 if
 -- no whole record begins there. Assumes nothing.
-use Rattle.std.specs.Prelude.{◌≡◌, refl, Bool, true, false, cond, ◌||◌, List, [], ℕ, ◌+◌, ◌/◌, ◌%◌, ◌≤◌, ◌<◌, ltb, eqb, length, get_or, take, drop}
+use Rattle.std.specs.Prelude.{◌≡◌, refl, Bool, true, false, cond, ◌||◌, List, [], ℕ, Option, Some, None, ◌+◌, ◌/◌, ◌%◌, ◌≤◌, ◌<◌, ltb, eqb, length, get_or, take, drop}
 use Rattle.std.proofs.Common.{ap, ◌∙◌, length-drop, arith}
 use borrow.Author.Tests.{lt-ltb, le-ltb, eq-eqb, ne_eqb, ltb-false, eqb-false}
 use Rattle.refusals.specs.Refusal.{or_false}
 use Rattle.octets.specs.Number.{num}
 use Rattle.record.specs.declared.RecordHeader.{RecordHeader}
 use Rattle.record.specs.declared.Stepped.{Stepped}
+use Rattle.record.specs.declared.Whole.{Whole}
 use Rattle.record.specs.Record.{Record}
 
 -- the lengths that the octets at the start of the part give
@@ -51,6 +52,11 @@ whole_step xs = record { refusal = 0; fields = fields_of xs; header = header_at 
 
 unfoldable pub step_of : List ℕ → Stepped
 step_of xs = cond (cut xs) refused_step (whole_step xs)
+
+-- the call's answer from the whole record that its code finds, or from none
+abbrev pub stepped : Option Whole → Stepped
+stepped None = refused_step
+stepped (Some w) = record { refusal = 0; fields = w.fields; header = w.header; body = w.body }
 
 -- the record that begins with the part, where one does
 abbrev pub record_of : List ℕ → Record

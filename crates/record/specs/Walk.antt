@@ -1,10 +1,10 @@
 -- Records one behind another (document 01, Reader: "walks the rest of the file from each record's end"): the list of the
 -- records that some octets are, or that one is cut; and what the reader needs of the list. Assumes nothing.
-use Rattle.std.specs.Prelude.{◌≡◌, refl, true, false, cond, List, [], ◌∷◌, ℕ, zero, suc, ◌+◌, ◌-◌, ◌≤◌, max, min, eqb, length, take, drop}
+use Rattle.std.specs.Prelude.{◌≡◌, refl, true, false, cond, List, [], ◌∷◌, ℕ, zero, suc, Option, Some, None, ◌+◌, ◌-◌, ◌≤◌, max, min, eqb, length, take, drop}
 use Rattle.std.proofs.Common.{sym, ap, ◌∙◌, subst, subst₂, arith, lit≤, length-drop, take_all, eq-eqb, ne_eqb}
 use Rattle.record.specs.declared.RecordHeader.{RecordHeader}
 use Rattle.record.specs.declared.Stepped.{Stepped}
-use Rattle.record.specs.declared.Tallied.{Tallied}
+use Rattle.record.specs.declared.Totals.{Totals}
 use Rattle.record.specs.Release.{rank}
 use Rattle.record.specs.Record.{Record, highest, lowest}
 use Rattle.record.specs.Step.{cut, record_of, record_length_at, inside, Taken}
@@ -27,6 +27,13 @@ walk_in (suc n) xs =
 unfoldable pub walk_of : List ℕ → Walked
 walk_of xs = walk_in (length xs) xs
 
+-- what a walk found: refusal 0 with the number of records and the greatest and least place in the order of releases, or 11 with zeros
+pub record Tallied : Type 0 where
+  pub refusal : ℕ
+  pub count : ℕ
+  pub high : ℕ
+  pub low : ℕ
+
 abbrev broken_tally : Tallied
 broken_tally = record { refusal = 11; count = 0; high = 0; low = 0 }
 
@@ -34,6 +41,14 @@ broken_tally = record { refusal = 11; count = 0; high = 0; low = 0 }
 abbrev pub tallied : Walked → Tallied
 tallied (records rs) = record { refusal = 0; count = length rs; high = highest rs; low = lowest rs }
 tallied broken = broken_tally
+
+-- the same of what the code finds, and of its answer
+abbrev pub found : Totals → Tallied
+found t = record { refusal = 0; count = t.count; high = t.high; low = t.low }
+
+abbrev pub answer_of : Option Totals → Tallied
+answer_of (Some t) = found t
+answer_of None = broken_tally
 
 unfoldable pub tally_of : List ℕ → Tallied
 tally_of xs = tallied (walk_of xs)

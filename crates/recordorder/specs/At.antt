@@ -1,11 +1,13 @@
 -- The octets of the record at an offset, header and body, and the order of a file's records by them.
 use Rattle.std.specs.Prelude.{◌≡◌, refl, Bool, true, false, cond, List, ℕ, ◌+◌, ◌≤◌, ◌<◌, eqb, length, take, drop}
-use Rattle.std.proofs.Common.{sym, ◌∙◌, arith, length-drop, take_all, ne_eqb, eqb-true}
-use Rattle.std.proofs.lemmas.Bool.{eqb-false}
+use Rattle.std.proofs.Common.{sym, ◌∙◌, arith, length-drop, take_all, eq-eqb, ne_eqb, eqb-true}
+use Rattle.std.specs.Ordering.{is_ne, ordering_index, nat_cmp}
+use Rattle.std.proofs.lemmas.Bool.{eqb-false, true≢false}
+use borrow.Author.Tests.{lt-ltb, le-ltb}
 use Rattle.octets.specs.Number.{Octets, num}
 use Rattle.record.specs.Step.{cut, record_length_at, header_least}
 use Rattle.multisets.specs.Merge.{Total}
-use Rattle.lexicographic.specs.Lexicographic.{order_of, order_most, order_turn, order_self, order_trans, order_front}
+use Rattle.lexicographic.specs.Lexicographic.{order_of, Lies, below, level, above, lies, order_most, order_turn, order_zero, order_self, order_trans, order_front}
 
 -- the octets of the record at the offset; all that is left of the file where no whole record begins there
 unfoldable pub record_at : List ℕ → ℕ → List ℕ
@@ -47,6 +49,20 @@ fronts_differ {f} {g} o p a b ha hb h =
     let x = begins f a ha in
     let y = begins g b hb in
     (λ i. order_of (x.is i) (y.is i)) ∙ order_front o p 4 a b x.octets y.octets ha hb x.enough y.enough h
+
+-- the same as std's order of the two numbers, where it tells them apart
+pub fronts_apart : {f g : List ℕ} → Octets f → Octets g → (a b : ℕ) → a + 4 ≤ length f → b + 4 ≤ length g
+    → is_ne (nat_cmp (num 4 f a) (num 4 g b)) ≡ true → ordering_index (nat_cmp (num 4 f a) (num 4 g b)) ≡ order_of (record_at f a) (record_at g b)
+fronts_apart {f} {g} o p a b ha hb e = by (lies (num 4 f a) (num 4 g b))
+  where
+    by : Lies (num 4 f a) (num 4 g b) → ordering_index (nat_cmp (num 4 f a) (num 4 g b)) ≡ order_of (record_at f a) (record_at g b)
+    by (below l) = rw (lt-ltb _ _ l) (sym (fronts_differ o p a b ha hb l))
+    by (level l) =
+        let m : num 4 g b ≤ num 4 f a = omega arith in
+        absurd (true≢false (sym e ∙ rw (le-ltb _ _ m, eq-eqb _ _ l)))
+    by (above l) =
+        let m : num 4 g b ≤ num 4 f a = omega arith in
+        rw (le-ltb _ _ m, ne_eqb _ _ (λ (q : num 4 f a ≡ num 4 g b). omega arith)) (sym (order_zero (record_at g b) (record_at f a) (fronts_differ p o b a hb ha l)))
 
 -- The laws of a total order, as a merge needs them.
 module _ (file : List ℕ) where

@@ -1,3 +1,4 @@
 pub mod Refusal
+pub mod Number
 pub mod Tests
 pub mod Below

@@ -7,9 +7,8 @@ use Rattle.std.proofs.Math.Dec.{eqb}
 use borrow.Author.Tests.{eqb-true, eq-eqb, not-false}
 use Rattle.octets.specs.Number.{num}
 use Rattle.refusals.specs.Refusal.{◌when◌, first, passed}
-use Rattle.record.specs.declared.Tallied.{Tallied}
 use Rattle.record.specs.Record.{Record}
-use Rattle.record.specs.Walk.{Walked, records, broken, walk_of, tallied, tally_of}
+use Rattle.record.specs.Walk.{Tallied, Walked, records, broken, walk_of, tallied, tally_of}
 use Rattle.cdrfile.specs.Order.{wrong_order}
 use Rattle.reader.specs.Places.{filter_length_at, private_part}
 use Rattle.reader.specs.Reader.{wrong_length, wrong_header_length, wrong_value, wrong_records, header_of, body_of, verdict, read_of, contents_of}

@@ -8,9 +8,8 @@ use Rattle.std.proofs.lemmas.List.{length-replicate}
 use Rattle.octets.specs.Number.{Octets, num, octets_drop}
 use Rattle.octets.specs.Splice.{splice, splice_there}
 use Rattle.refusals.specs.Refusal.{Rule, ◌when◌, first}
-use Rattle.record.specs.declared.Tallied.{Tallied}
 use Rattle.record.specs.Record.{Record, records_octets}
-use Rattle.record.specs.Walk.{tallied, tally_of}
+use Rattle.record.specs.Walk.{Tallied, tallied, tally_of}
 use Rattle.cdrfile.specs.File.{File, layout}
 use Rattle.roundtrip.specs.Described.{RightFile, Described}
 use Rattle.cdrfile.specs.Laws.{file_length}

@@ -7,10 +7,9 @@ use Rattle.octets.specs.Number.{Octets}
 use Rattle.refusals.specs.Refusal.{or_left, or_right}
 use Rattle.refusals.specs.Tests.{both}
 use Rattle.record.specs.declared.Release.{Release}
-use Rattle.record.specs.declared.Tallied.{Tallied}
 use Rattle.record.specs.Release.{rank}
 use Rattle.record.specs.Record.{Record, AllRight, record_octets, records_octets, highest, lowest}
-use Rattle.record.specs.Walk.{records, tallied, tally_of}
+use Rattle.record.specs.Walk.{Tallied, records, tallied, tally_of}
 use Rattle.record.specs.Format.{walks}
 use Rattle.cdrfile.specs.declared.Header.{Header}
 use Rattle.cdrfile.specs.File.{header_length}

@@ -7,11 +7,10 @@ use Rattle.octets.specs.Number.{Octets}
 use Rattle.octets.specs.Splice.{splice}
 use Rattle.refusals.specs.Refusal.{both_false}
 use Rattle.timestamp.specs.Timestamp.{narrow, narrow_bounds, bounds_narrow, right_bounds, bounds_right, right_narrow}
-use Rattle.record.specs.declared.Tallied.{Tallied}
 use Rattle.record.specs.Release.{narrow_release}
 use Rattle.record.specs.Record.{Record, records_octets}
 use Rattle.record.specs.Order.{narrowed, narrow_true}
-use Rattle.record.specs.Walk.{Walked, records, broken, walk_of, tallied, tally_of}
+use Rattle.record.specs.Walk.{Tallied, Walked, records, broken, walk_of, tallied, tally_of}
 use Rattle.record.specs.Format.{walked, walks}
 use Rattle.cdrfile.specs.declared.Header.{Header}
 use Rattle.cdrfile.specs.Statement.{agrees}

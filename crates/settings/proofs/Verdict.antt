@@ -1,9 +1,9 @@
 -- What the verdict on settings comes to (document 01, Settings; Refusals 1, 2, 3, 18 and 22): which of refusals 1, 2, 3 and 22 a fresh manager gets, or the
 -- manager; that accepted settings say of it what specs/Accepted.antt has, so that it is within the bounds of refusal 18; and that the
 -- state of a refusal is not. Assumes nothing.
-use Rattle.std.specs.Prelude.{◌≡◌, refl, Bool, true, false, not, List, [], ◌∷◌, ℕ, zero, suc, ◌≤◌, ◌<◌, ltb, length}
+use Rattle.std.specs.Prelude.{◌≡◌, refl, Bool, true, false, not, List, [], ◌∷◌, ℕ, zero, suc, ◌≤◌, ◌<◌, ltb}
 use Rattle.std.proofs.Math.Path.{sym, ap}
-use Rattle.std.proofs.Common.{◌∙◌, arith}
+use Rattle.std.proofs.Common.{◌∙◌}
 use borrow.Author.Tests.{ltb-false, le-leb, not-false}
 use Rattle.octets.specs.Number.{num}
 use Rattle.refusals.specs.Refusal.{◌when◌, passed, or_false}

@@ -1,21 +1,16 @@
 -- What accepted settings say of their manager (document 01, Settings; Refusals 1, 2, 3, 18 and 22): it has 1 to 8 routes, each in
 -- range, closed and with a filter of its own. That they say so, and that it is within the bounds of refusal 18: proofs/Verdict.antt. Assumes nothing.
-use Rattle.std.specs.Prelude.{◌≡◌, true, false, not, ltb, length}
-use Rattle.std.proofs.Math.Path.{refl, ap}
+use Rattle.std.specs.Prelude.{◌≡◌, true, length}
 use Rattle.std.proofs.Common.{◌∙◌, arith, get_or-set_same, get_or-set_other}
-use mathlib.Core.List.{List, [], ◌∷◌}
+use mathlib.Core.List.{List}
 use Prim.Native.Nat.{ℕ, zero, suc, ◌≤◌, ◌<◌}
 use Rattle.std.proofs.Math.Decide.{ℕ_discrete}
-use borrow.Author.Tests.{ltb-false, le-leb, not-false}
 use Rattle.octets.specs.Number.{num}
-use Rattle.refusals.specs.Refusal.{◌when◌, passed, or_false}
-use Rattle.refusals.specs.Below.{all_below, below_each, below_all}
-use Rattle.state.specs.declared.Route.{Route}
+use Rattle.refusals.specs.Below.{all_below}
 use Rattle.state.specs.Manager.{no_route, route_at}
-use Rattle.state.specs.Bounds.{settings_right, distinct, route_right, right_at, routes_right, state_right}
-use Rattle.settings.specs.Settings.{routes_in, sets_in, route_start, wrong_shape, beyond_range, equal_filters, set_time_right, wrong_sets, in_range_at, in_range, settings_from, route_from, routes_from, manager_from, no_manager, settled, verdict, fresh_of}
-use Rattle.settings.specs.Cases.{Shaped, shaped, routes_length}
-use Rattle.settings.specs.Sets.{sets_right_lem}
+use Rattle.state.specs.Bounds.{distinct}
+use Rattle.settings.specs.Settings.{routes_in, sets_in, route_start, set_time_right, in_range, route_from, routes_from, manager_from}
+use Rattle.settings.specs.Cases.{Shaped, routes_length}
 
 -- the configured routes are those of the octets
 pub route_from_lem : (xs : List ℕ) (n i : ℕ) → i < n → n ≤ 8 → route_at (manager_from xs n) i ≡ route_from xs (route_start i)

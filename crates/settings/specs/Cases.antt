@@ -1,6 +1,6 @@
 -- The cases of a fresh manager that the code meets (document 01, Settings and Refusals): which of refusals 1, 2, 3 and 22 comes,
 -- or the manager; and what settings of the right shape say of their length. Assumes nothing.
-use Rattle.std.specs.Prelude.{◌≡◌, refl, Bool, true, false, ◌||◌, List, [], ℕ, zero, suc, ◌+◌, ◌*◌, ◌≤◌, ◌<◌, length, get_or, replicate}
+use Rattle.std.specs.Prelude.{◌≡◌, refl, true, false, ◌||◌, List, [], ℕ, zero, suc, ◌+◌, ◌*◌, ◌≤◌, ◌<◌, length, get_or, replicate, Result, Ok, Err}
 use Rattle.std.proofs.Math.Path.{sym, ap}
 use Rattle.std.proofs.Common.{◌∙◌, add-one, arith, length-set}
 use Rattle.std.proofs.Math.Bool.{not}
@@ -9,17 +9,24 @@ use Rattle.std.proofs.lemmas.List.{length-replicate}
 use Rattle.std.proofs.Math.ListN.{get_or-eq_default}
 use borrow.Author.Tests.{eq-eqb, ne_eqb, eqb-true, eqb-false, not-false}
 use Rattle.octets.specs.Splice.{splice}
+use Rattle.refusals.specs.declared.Refusal.{Refusal}
+use Rattle.refusals.specs.Number.{number}
 use Rattle.refusals.specs.Refusal.{or_false}
 use Rattle.refusals.specs.Below.{all_below, list_length, leading, leading_all, leading_to, leading_most}
 use Rattle.state.specs.Manager.{Manager}
-use Rattle.state.specs.Bounds.{distinct}
 use Rattle.words.specs.Words.{route_words, node_words, words_of}
 use Rattle.words.specs.Laws.{words_length, filled_words, node_words_lem}
-use Rattle.settings.specs.Settings.{Fresh, route_from, unused_route, node_from, routes_from, routes_in, sets_in, route_start, kind_at, set_start, set_kind_at, wrong_shape, beyond_range, equal_filters, wrong_sets, set_number_at, set_times_from, manager_with, manager_from, no_manager, verdict, fresh_of}
+use Rattle.settings.specs.declared.Loaded.{Loaded}
+use Rattle.settings.specs.Settings.{Fresh, worded, route_from, unused_route, node_from, routes_from, routes_in, sets_in, route_start, kind_at, set_start, set_kind_at, wrong_shape, set_number_at, set_times_from, manager_with, no_manager}
 
 -- a refusal carries its number, and the one state that goes with it
 abbrev pub refused_fresh : ℕ → Fresh
 refused_fresh n = record { refusal = n; manager = no_manager }
+
+-- what the call answers where it has made a fresh manager's words, or a refusal
+abbrev pub loaded_from : Result (List ℕ) Refusal → Loaded
+loaded_from (Ok words) = record { refusal = 0; words = words }
+loaded_from (Err r) = worded (refused_fresh (number r))
 
 -- how many routes there are: they end with the octets, with another kind, or at eight
 module _ (xs : List ℕ) where

@@ -1,6 +1,6 @@
 -- A walk over two lists of offsets, each in the order of its records, that counts the records in both.
-use Rattle.std.specs.Prelude.{◌≡◌, Bool, false, List, [], ◌∷◌, map, ℕ, zero, suc, ◌+◌, ◌≤◌, ◌<◌, eqb, leb, length, drop, get_or}
-use Rattle.std.proofs.Common.{sym, ap, ◌∙◌, subst, arith, add-one, lit≤, drop_of_length-le, drop-cons, eq-eqb, ne_eqb, eqb-true, le-leb}
+use Rattle.std.specs.Prelude.{◌≡◌, Bool, false, List, [], ◌∷◌, map, ℕ, zero, suc, ◌+◌, ◌-◌, ◌≤◌, ◌<◌, min, eqb, leb, length, take, drop, get_or}
+use Rattle.std.proofs.Common.{sym, ap, ◌∙◌, subst, subst₂, arith, add-one, lit≤, drop_of_length-le, drop-cons, take_all, eq-eqb, ne_eqb, eqb-true, le-leb}
 use Rattle.std.proofs.lemmas.Bool.{eqb-false}
 use Rattle.lexicographic.specs.Lexicographic.{order_of, order_most, order_turn, order_self, order_same}
 use Rattle.multisets.specs.Passing.{one_if, Sorted, passing_none, passing_map}
@@ -41,6 +41,13 @@ turn_moves (suc (suc c)) =
     let z : one_if (eqb (suc (suc c)) 1) ≡ 0 = rw (ne_eqb (suc (suc c)) 1 (λ (e : suc (suc c) ≡ 1). omega arith)) in
     (omega arith, omega arith)
 
+-- what is left of a list behind its first element
+abbrev pub behind : List ℕ → List ℕ
+behind xs = take (length xs - 1) (drop 1 xs)
+
+behind_is : (a : ℕ) (xs : List ℕ) → behind (a ∷ xs) ≡ xs
+behind_is a xs = take_all (suc (length xs) - 1) xs (omega arith)
+
 module _ (f g : ℕ → List ℕ) where
   -- n are counted, and xs and ys are left
   pub record Counting (n : ℕ) (xs ys : List ℕ) (total : ℕ) : Type 0 where
@@ -71,7 +78,7 @@ module _ (f g : ℕ → List ℕ) where
   stepwise_none : (xs : List (List ℕ)) → stepwise same_octets xs [] ≡ 0
   stepwise_none xs = stepwise_turn same_octets same_octets_lem xs []
 
-  -- The same in a loop's terms: from i on, and from j on.
+  -- The same from i on, and from j on.
   module _ (xs ys : List ℕ) (n i j total : ℕ) (w : Counting n (drop i xs) (drop j ys) total) where
     pub counting_first_end : length xs ≤ i → n ≡ total
     counting_first_end h =
@@ -104,3 +111,30 @@ module _ (f g : ℕ → List ℕ) where
           let k : i + 0 ≡ i = omega arith in
           rw (z, k, add-one j, drop-cons xs i 0 hi) p
       counting_on (suc (suc (suc c))) e = absurd (omega (arith, order_most (f (get_or xs i 0)) (g (get_or ys j 0))))
+
+  -- The same in a loop's terms: what is left of a list behind its first element, which is there.
+  module _ (n total : ℕ) where
+    pub counting_less : (xs ys : List ℕ) → Counting n xs ys total → 0 < length xs → 0 < length ys
+        → order_of (f (get_or xs 0 0)) (g (get_or ys 0 0)) ≡ 0 → Counting n (behind xs) ys total
+    counting_less [] ys w hx hy h = absurd (omega arith)
+    counting_less (a ∷ xs) [] w hx hy h = absurd (omega arith)
+    counting_less (a ∷ xs) (b ∷ ys) w hx hy h = subst (λ (l : List ℕ). Counting n l (b ∷ ys) total) (sym (behind_is a xs)) (pass_first n a b total xs ys w h)
+
+    pub counting_greater : (xs ys : List ℕ) → Counting n xs ys total → 0 < length xs → 0 < length ys
+        → order_of (f (get_or xs 0 0)) (g (get_or ys 0 0)) ≡ 2 → Counting n xs (behind ys) total
+    counting_greater [] ys w hx hy h = absurd (omega arith)
+    counting_greater (a ∷ xs) [] w hx hy h = absurd (omega arith)
+    counting_greater (a ∷ xs) (b ∷ ys) w hx hy h = subst (λ (l : List ℕ). Counting n (a ∷ xs) l total) (sym (behind_is b ys)) (pass_second n a b total xs ys w h)
+
+    pub counting_equal : (xs ys : List ℕ) → Counting n xs ys total → 0 < length xs → 0 < length ys
+        → order_of (f (get_or xs 0 0)) (g (get_or ys 0 0)) ≡ 1 → Counting (n + 1) (behind xs) (behind ys) total
+    counting_equal [] ys w hx hy h = absurd (omega arith)
+    counting_equal (a ∷ xs) [] w hx hy h = absurd (omega arith)
+    counting_equal (a ∷ xs) (b ∷ ys) w hx hy h =
+        subst₂ (λ (k l : List ℕ). Counting (n + 1) k l total) (sym (behind_is a xs)) (sym (behind_is b ys)) (pass_both n a b total xs ys w h)
+
+    -- one of the lists has come to its end
+    pub counting_end : (xs ys : List ℕ) → Counting n xs ys total → min (length xs) (length ys) ≡ 0 → n ≡ total
+    counting_end [] ys w h = omega (arith, w.sum)
+    counting_end (a ∷ xs) [] w h = omega (arith, w.sum, stepwise_none (map f (a ∷ xs)))
+    counting_end (a ∷ xs) (b ∷ ys) w h = absurd (omega arith)

@@ -4,7 +4,7 @@
 mod input;
 mod sentences;
 
-pub use input::{Octets, Six, Two, octets_of, one_of, six_of, two_of};
+pub use input::{numbers_of, octets_of};
 pub use sentences::{
     print_answer, print_malformed, print_packet, print_route, print_settings, print_state,
 };

@@ -4,5 +4,5 @@
 mod fields;
 mod words;
 
-pub use fields::{put_address, put_octets_or, put_record, put_release, put_time};
-pub use words::{put_file_refusal, put_lost, put_private, put_reason};
+pub use fields::{DigitsOr, InWords};
+pub use words::{print_file_refusal, print_lost, print_private, print_reason};

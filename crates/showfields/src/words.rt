@@ -1,37 +1,26 @@
-// The words that are laid by the crates `wording` and `reasons`, on a slip of their own, put on the page.
-ghost use Rattle.std.specs.Prelude.{◌≡◌, ◌≤◌, length};
+// The words that are laid by the crates `wording` and `reasons`, put on the page. The pages in docs/ name the functions that lay them, and they lay octets, of
+// which a `Display` would have to make text again. Reason, statement and refusal are the numbers of the structs that C reads.
+ghost use Rattle.std.specs.Prelude.{◌≤◌, length};
 
-use textlines::{Printer, part, put_all};
+use textlines::{Page, part};
 
-pub fn put_lost(page: &mut [u8], p: Printer, octet: u8) -> Printer {
-    let mut slip = [0u8; 128];
-    let n = wording::lay_lost(&mut slip, 0, octet);
-    put_all(page, p, part(&slip, 0, n))
+pub fn print_lost(page: &mut Page<'_>, octet: u8) {
+    page.put_laid(|slip| wording::lay_lost(slip, 0, octet));
 }
 
-pub fn put_reason(page: &mut [u8], p: Printer, reason: u8) -> Printer {
-    let mut slip = [0u8; 128];
-    let n = reasons::lay_reason(&mut slip, 0, reason);
-    put_all(page, p, part(&slip, 0, n))
+pub fn print_reason(page: &mut Page<'_>, reason: u8) {
+    page.put_laid(|slip| reasons::lay_reason(slip, 0, reason));
 }
 
-pub fn put_file_refusal(page: &mut [u8], p: Printer, number: u8) -> Printer {
-    let mut slip = [0u8; 128];
-    let n = reasons::lay_file_refusal(&mut slip, 0, number);
-    put_all(page, p, part(&slip, 0, n))
+pub fn print_file_refusal(page: &mut Page<'_>, number: u8) {
+    page.put_laid(|slip| reasons::lay_file_refusal(slip, 0, number));
 }
 
-// A slip with room for the digits of 65,536 octets too.
-fn wide_slip() -> [u8; 131200]
-    ensures { 131200 ≡ length result }
-{
-    [0; 131200]
-}
-
-pub fn put_private(page: &mut [u8], p: Printer, statement: u8, private: &[u8]) -> Printer
+// The slip has room for the digits of 65,536 octets too.
+pub fn print_private(page: &mut Page<'_>, statement: u8, private: &[u8])
     requires { length private.now ≤ 65536 }
 {
-    let mut slip = wide_slip();
+    let mut slip = [0u8; 131200];
     let n = wording::lay_private(&mut slip, 0, statement, private);
-    put_all(page, p, part(&slip, 0, n))
+    page.put_all(part(&slip, 0, n));
 }

@@ -1,2 +1,3 @@
 pub mod Choice
 pub mod Halves
+pub mod Sorted

@@ -7,7 +7,7 @@ use Rattle.std.proofs.Math.Decide.{ℕ_discrete}
 use Rattle.refusals.specs.Tests.{both}
 use Rattle.refusals.specs.Refusal.{or_false}
 use Rattle.state.specs.Manager.{Manager}
-use Rattle.state.specs.declared.Routed.{Routed}
+use Rattle.state.specs.Routing.{Routed}
 use Rattle.state.specs.Manager.{settings_at}
 use Rattle.state.specs.Routing.{fits, among, route_of}
 use Rattle.state.specs.Holding.{if_then}

@@ -40,6 +40,7 @@ fn empty_right(s: RouteSettings, f: OpenFile) -> bool
 }
 
 // Whether an open file of a route with these settings is right at a last time. Few files are empty: the tests of one are behind a branch.
+#[tactic(auto, using(crate::specs::Empty::file_held, crate::specs::Empty::file_empty))]
 pub fn file_right(last: u32, s: RouteSettings, f: OpenFile) -> bool
     ensures { result ≡ file_right last s f }
 {

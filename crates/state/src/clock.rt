@@ -5,5 +5,5 @@ ghost use Rattle.std.specs.Prelude.{◌≡◌, max};
 pub fn effective_time(last: u32, time: u32) -> u32
     ensures { result ≡ max last time }
 {
-    if last < time { time } else { last }
+    last.max(time)
 }

@@ -16,6 +16,8 @@ pub use size::header_size;
 // A route's settings (document 01, Settings): its filter, of which `octets` count and the rest are 0; the size limit; the
 // open-time limit in minutes and the most records, 0 for none; the flag for one release and version per file; and the release
 // and version of an empty file.
+// The 0 for none and the flag stay numbers: each of a state's words says something, so that words and states determine each other
+// (`words_words` of crate words).
 #[derive(Clone, Copy)]
 pub struct RouteSettings {
     pub filter: [u8; 20],
@@ -42,7 +44,8 @@ pub struct OpenFile {
 }
 
 // A route: its settings, its next sequence number, the known losses and the unrouted records since its last file closed, and
-// its open file, if any.
+// its open file, if any. No `Option` of a file: the words of a closed file stay as they are, so that words and states determine each
+// other (`words_words`, `manager_words` of crate words).
 #[derive(Clone, Copy)]
 pub struct Route {
     pub settings: RouteSettings,
@@ -60,10 +63,9 @@ pub struct Node {
     pub bias: u32,
 }
 
-// What routing found: whether a route fits, which one, and how many octets its filter has.
+// The route that routing found, and how many octets its filter has.
 #[derive(Clone, Copy)]
-pub struct Routed {
-    pub found: bool,
+pub struct Found {
     pub at: u8,
     pub octets: u8,
 }

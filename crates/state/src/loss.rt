@@ -1,5 +1,5 @@
 // Losses (document 01, Routing and loss): which routed records are lost, and the indicator that a file's header carries.
-ghost use Rattle.std.specs.Prelude.{◌≡◌, min};
+ghost use Rattle.std.specs.Prelude.{◌≡◌};
 ghost use Rattle.state.specs.Loss.{lost, indicator};
 
 use crate::RouteSettings;
@@ -8,6 +8,7 @@ use record::Release;
 
 // Whether a record with this mark, release and body, routed to a route of these settings, is lost. A longer body than 65,534
 // is told first, so that the sum behind it fits.
+#[tactic(auto, using(record::specs::HeaderOctets::header_most, crate::specs::Size::size_most))]
 pub fn is_lost(s: RouteSettings, mark: u32, r: Release, body: usize) -> bool
     ensures { result ≡ lost s.limit s.octets mark r body }
 {
@@ -19,21 +20,15 @@ pub fn is_lost(s: RouteSettings, mark: u32, r: Release, body: usize) -> bool
     (mark == 1) | ((s.limit as usize) < header + octets)
 }
 
-// The losses that seven bits hold: 127 for all beyond.
-fn in_seven_bits(losses: u32) -> u8
-    ensures { result ≡ min losses 127 }
-{
-    if losses < 127 { losses as u8 } else { 127 }
-}
-
-// The lost indicator of so many known losses, `noted` where there was an unrouted record.
+// The lost indicator of so many known losses, of which seven bits hold 127 at most; `noted` where there was an unrouted record.
 pub fn lost_indicator(losses: u32, noted: bool) -> u8
     ensures { result ≡ indicator losses noted }
 {
-    let known = in_seven_bits(losses);
-    if noted {
-        if losses == 0 { 128 } else { known }
-    } else {
-        if losses == 0 { 0 } else { 128 + known }
+    let known = losses.min(127) as u8;
+    match (noted, losses) {
+        (true, 0) => 128,
+        (true, _) => known,
+        (false, 0) => 0,
+        (false, _) => 128 + known,
     }
 }

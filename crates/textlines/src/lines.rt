@@ -1,129 +1,150 @@
-// The script's lines, taken from standard input by way of a buffer.
-ghost use Rattle.std.specs.Prelude.{◌≤◌, length};
+// The lines of standard input, taken by way of a buffer.
+ghost use Rattle.std.specs.Prelude.{◌≡◌, ◌<◌, IsSome};
 
-use crate::parts::{find, part};
+use crate::page::Page;
 use std::io::Stdin;
 
-// The input that the buffer is filled from, and what is left of the buffer: the octets from `at` to `end`.
-#[derive(Clone, Copy)]
-pub struct Source {
-    pub stdin: Stdin,
-    pub at: usize,
-    pub end: usize,
+// The most lines that a program takes: its loop must be shown to end.
+const LINES: u64 = 4000000000;
+
+// A line that is wrong or beyond the program's limits: the run ends there.
+#[derive(Clone, Copy, Debug, PartialEq, Eq)]
+pub struct Wrong;
+
+// Standard input, the buffer that it is read into, which is lent (fixed memory), and where the octets that are left of the buffer begin and end.
+#[derive(Drop)]
+struct Input<'a> {
+    stdin: Stdin,
+    buffer: &'a mut [u8],
+    at: usize,
+    end: usize,
 }
 
-// The next octet of the input, unless it has ended, and what is left of the buffer then.
-#[derive(Clone, Copy)]
-struct Next {
-    ended: bool,
-    octet: u8,
-    source: Source,
-}
-
-// What stands next: nothing, a line of so many octets with what is left of the buffer behind it, or a line longer than is taken.
-#[derive(Clone, Copy)]
-pub enum Taken {
-    Nothing,
-    Line(usize, Source),
-    Long,
-}
-
-// Fills the buffer anew and answers how many octets came: none at the end of the input, or where it cannot be read.
-pub fn refill(stdin: Stdin, input: &mut [u8]) -> usize
-    ensures { result ≤ length input.new }
-{
-    streams::read_some(stdin, input)
-}
-
-// The first octet of a buffer that was just filled.
-fn next_filled(stdin: Stdin, input: &mut [u8]) -> Next {
-    let end = refill(stdin, input);
-    if 0 < end {
-        return Next {
-            ended: false,
-            octet: input[0],
-            source: Source {
-                stdin: stdin,
-                at: 1,
-                end: end,
-            },
-        };
+impl<'a> Input<'a> {
+    // Fills the buffer anew, with nothing at the end of the input, or where it cannot be read.
+    fn fill(&mut self) {
+        self.at = 0;
+        self.end = streams::read_some(self.stdin, self.buffer);
     }
-    Next {
-        ended: true,
-        octet: 0,
-        source: Source {
-            stdin: stdin,
+
+    // The next octet, which stays there, or none where the input has ended.
+    fn peek(&mut self) -> Option<u8>
+        ensures { IsSome result → self.new.at < self.new.end }
+    {
+        if self.end <= self.at {
+            self.fill();
+        }
+        let at = self.at;
+        if self.end <= at {
+            return None;
+        }
+        self.buffer.get(at).copied()
+    }
+
+    fn next(&mut self) -> Option<u8> {
+        let octet = self.peek()?;
+        self.at += 1;
+        Some(octet)
+    }
+}
+
+// The input, the space for a line, and the number of the line that was asked for last.
+#[derive(Drop)]
+pub struct Lines<'a> {
+    input: Input<'a>,
+    line: &'a mut [u8],
+    number: u64,
+}
+
+impl<'a> Lines<'a> {
+    pub fn new(stdin: Stdin, buffer: &'a mut [u8], line: &'a mut [u8]) -> Lines<'a> {
+        let input = Input {
+            stdin,
+            buffer,
             at: 0,
             end: 0,
-        },
+        };
+        Lines {
+            input,
+            line,
+            number: 0,
+        }
     }
-}
 
-fn next_octet(input: &mut [u8], s: Source) -> Next {
-    let at = s.at;
-    if at < s.end {
-        if at < input.len() {
-            return Next {
-                ended: false,
-                octet: input[at],
-                source: Source {
-                    stdin: s.stdin,
-                    at: at + 1,
-                    end: s.end,
-                },
+    // The next octet of the input, which stays there, or none where the input has ended.
+    pub fn peek(&mut self) -> Option<u8> {
+        self.input.peek()
+    }
+
+    // How many octets the next line has without its LF. The last one may lack its LF.
+    fn take_octets(&mut self) -> Result<Option<usize>, Wrong> {
+        for count in 0..=self.line.len() {
+            match self.input.next() {
+                None => return Ok(if count == 0 { None } else { Some(count) }),
+                Some(b'\n') => return Ok(Some(count)),
+                Some(octet) => *self.line.get_mut(count).ok_or(Wrong)? = octet,
+            }
+        }
+        Err(Wrong)
+    }
+
+    // The next line, without its LF, or none behind the last. One that is too long is wrong, and so is any beyond the most lines.
+    pub fn take(&mut self) -> Result<Option<&[u8]>, Wrong> {
+        self.number = self.number.saturating_add(1);
+        match self.take_octets()? {
+            None => Ok(None),
+            Some(_) if LINES < self.number => Err(Wrong),
+            Some(count) => Ok(self.line.get(..count)),
+        }
+    }
+
+    // Takes the lines in order and has each answered, up to their end, a wrong one, or a page that cannot be written.
+    pub fn answer_all<F: FnMut(&[u8], &mut Page<'_>) -> Result<(), Wrong>>(
+        &mut self,
+        page: &mut Page<'_>,
+        mut answer: F,
+    ) -> Result<(), Wrong>
+        requires { F.IsAlwaysCallable answer }
+    {
+        for _ in 0..=LINES {
+            let Some(line) = self.take()? else {
+                return Ok(());
             };
+            answer(line, page)?;
+            if page.is_read_along() && !self.has_line() {
+                page.flush();
+            }
+            if !page.works() {
+                return Ok(());
+            }
+        }
+        Ok(())
+    }
+
+    // The number of the line that was asked for last, from 1 on.
+    pub fn number(&self) -> u64
+        ensures { result ≡ self.now.number }
+    {
+        self.number
+    }
+
+    // Whether a whole line is left of the buffer, so that it is taken without waiting for more of the input.
+    fn has_line(&self) -> bool {
+        let left = self.input.at..self.input.end;
+        match self.input.buffer.get(left) {
+            Some(rest) => rest.contains(&b'\n'),
+            None => false,
         }
     }
-    next_filled(s.stdin, input)
-}
 
-// Takes the next line, without its LF, to the start of `line`. The last one may lack its LF.
-pub fn take_line(input: &mut [u8], line: &mut [u8], s: Source) -> Taken {
-    let mut source = s;
-    let mut n: usize = 0;
-    while n < line.len() {
-        let next = next_octet(input, source);
-        source = next.source;
-        if next.ended {
-            return last_line(n, source);
+    // The whole input, of which nothing was taken yet, as far as the buffer holds it.
+    pub fn whole(&mut self) -> &[u8] {
+        let input = &mut self.input;
+        let (stdin, end) = (input.stdin, input.end);
+        if let Some(rest) = input.buffer.get_mut(end..) {
+            input.end = end + streams::read_full(stdin, rest);
         }
-        if next.octet == b'\n' {
-            return Taken::Line(n, source);
-        }
-        line[n] = next.octet;
-        n += 1;
+        let end = input.end;
+        input.buffer.get(..end).unwrap_or_default()
     }
-    full_line(input, n, source)
-}
-
-// Whether a whole line is left of the buffer, so that it is taken without waiting for more of the input.
-pub fn has_line(input: &[u8], s: Source) -> bool {
-    if s.end <= s.at {
-        return false;
-    }
-    let rest = part(input, s.at, s.end - s.at);
-    find(rest, 0, b'\n') < rest.len()
-}
-
-// The end of the input behind `n` octets with no LF.
-fn last_line(n: usize, s: Source) -> Taken {
-    if n == 0 {
-        Taken::Nothing
-    } else {
-        Taken::Line(n, s)
-    }
-}
-
-// A line of which the `n` octets fill the space for it: it is taken only if it ends there.
-fn full_line(input: &mut [u8], n: usize, s: Source) -> Taken {
-    let next = next_octet(input, s);
-    let source = next.source;
-    if next.ended {
-        return last_line(n, source);
-    }
-    if next.octet == b'\n' {
-        return Taken::Line(n, source);
-    }
-    Taken::Long
 }

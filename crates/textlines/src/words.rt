@@ -1,104 +1,78 @@
-// The words of a line, each behind one space: decimal numbers, and octets as they are.
-ghost use Rattle.std.specs.Prelude.{◌≤◌};
+// The words of a line, each behind one space.
+ghost use Rattle.std.specs.Prelude.{◌≡◌, ◌<◌, ◌≤◌, ◌↔◌, [], ◌∷◌, ◌++◌, length, IsSome, MatchOption, Some, List, ℕ};
+ghost use Rattle.textlines.specs.Decimal.{number_of};
+ghost use Rattle.textlines.specs.Words.{is_space, word_of};
+ghost use Rattle.std.specs.List.{position_or_len};
 
-use crate::parts::find;
-
-// Where the word behind a wrong one stands: nothing is read from here on, and no line ends here.
-pub const NOWHERE: usize = 18446744073709551615;
-
-const MOST: u64 = 4294967295;
-
-// A number, and where its word ends.
-#[derive(Clone, Copy)]
-pub struct Number {
-    pub value: u32,
-    pub next: usize,
-}
-
-// Where a word begins and ends.
-#[derive(Clone, Copy)]
-pub struct Word {
-    pub start: usize,
-    pub next: usize,
-}
-
-pub fn no_number() -> Number
-    ensures { result.value ≤ 0 }
+// How many octets stand before the first space.
+fn before_space(octets: &[u8]) -> usize
+    ensures { (result ≡ position_or_len is_space octets.now) × (result ≤ length octets.now) }
 {
-    Number {
-        value: 0,
-        next: NOWHERE,
-    }
+    octets
+        .iter()
+        .position(|octet| *octet == b' ')
+        .unwrap_or(octets.len())
 }
 
-// Where the word begins whose space stands at `at`.
-pub fn behind_space(line: &[u8], at: usize) -> usize {
-    if at < line.len() {
-        if line[at] == b' ' {
-            return at + 1;
+// What is left of a line: each word stands behind a space.
+#[derive(Clone, Copy)]
+pub struct Words<'a> {
+    rest: &'a [u8],
+}
+
+impl<'a> Words<'a> {
+    pub fn new(rest: &'a [u8]) -> Words<'a>
+        ensures { result.rest.now ≡ rest.now }
+    {
+        Words { rest }
+    }
+
+    // The next word, up to the next space or the line's end. A word has an octet at least.
+    pub fn word(&mut self) -> Option<&'a [u8]>
+        ensures { MatchOption result ((word_of self.old.rest.now ≡ []) × (self.new.rest.now ≡ self.old.rest.now))
+            (λ word. (word.now ≡ word_of self.old.rest.now) × (0 < length word.now)
+            × (self.old.rest.now ≡ 32 ∷ word.now ++ self.new.rest.now)) }
+    {
+        let (space, behind) = self.rest.split_first()?;
+        if *space != b' ' {
+            return None;
         }
+        let count = before_space(behind);
+        if count == 0 {
+            return None;
+        }
+        let (word, rest) = behind.split_at_checked(count)?;
+        self.rest = rest;
+        Some(word)
     }
-    NOWHERE
+
+    // The next word, if it is a number.
+    pub fn number(&mut self) -> Option<u32>
+        ensures value { result ≡ number_of (word_of self.old.rest.now) }
+        ensures rest { IsSome result → self.old.rest.now ≡ 32 ∷ word_of self.old.rest.now ++ self.new.rest.now }
+    {
+        number_of(self.word()?)
+    }
+
+    // The line's end, if it stands next.
+    pub fn end(self) -> Option<()>
+        ensures { IsSome result ↔ (self.entry.rest.now ≡ []) }
+    {
+        if self.rest.is_empty() { Some(()) } else { None }
+    }
 }
 
-// The value of a decimal digit, or 10 for any other octet.
-fn decimal_digit(octet: u8) -> u64
-    ensures { result ≤ 10 }
+// The number that decimal digits give, if it has no more than 32 bits.
+pub fn number_of(digits: &[u8]) -> Option<u32>
+    ensures { result ≡ number_of digits.now }
 {
-    match octet {
-        b'0'..=b'9' => octet as u64 - 48,
-        _ => 10,
+    if digits.is_empty() {
+        return None;
     }
-}
-
-// The digits from `start` on.
-pub fn digits_from(line: &[u8], start: usize) -> Number {
-    let mut value: u32 = 0;
-    let mut i = start;
-    while i < line.len() {
-        let digit = decimal_digit(line[i]);
-        if digit == 10 {
-            return ended(value, start, i);
-        }
-        let more = value as u64 * 10 + digit;
-        if more > MOST {
-            return no_number();
-        }
-        value = more as u32;
-        i += 1;
+    let mut number: u32 = 0;
+    for octet in digits {
+        let digit = char::from(*octet).to_digit(10)?;
+        number = number.checked_mul(10)?.checked_add(digit)?;
     }
-    ended(value, start, i)
-}
-
-// A number has a digit.
-fn ended(value: u32, start: usize, next: usize) -> Number {
-    if start == next {
-        return no_number();
-    }
-    Number {
-        value: value,
-        next: next,
-    }
-}
-
-// The number behind the space at `at`.
-pub fn number_at(line: &[u8], at: usize) -> Number {
-    let start = behind_space(line, at);
-    digits_from(line, start)
-}
-
-// The word behind the space at `at`, up to the next space or the line's end. A word has an octet at least.
-pub fn word_at(line: &[u8], at: usize) -> Word {
-    let start = behind_space(line, at);
-    let next = find(line, start, b' ');
-    if start == next {
-        return Word {
-            start: 0,
-            next: NOWHERE,
-        };
-    }
-    Word {
-        start: start,
-        next: next,
-    }
+    Some(number)
 }

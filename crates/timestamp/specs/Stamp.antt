@@ -2,9 +2,11 @@
 -- Document 01, Timestamps and Refusals (000, 6.1.1.5, which knows no refusal): 4 for a time above 52,595,999, then 2 for an offset beyond its range.
 -- Document 01 orders the refusals of settings and of events only. Here 4 comes first, since an event tests its time while the offset is a setting tested before.
 -- A refusal carries its number, and zeros elsewhere. Assumes nothing.
-use Rattle.std.specs.Prelude.{◌≡◌, List, [], ◌∷◌, ℕ, zero, suc, ◌<◌, ◌≤◌, ltb}
+use Rattle.std.specs.Prelude.{◌≡◌, List, [], ◌∷◌, ℕ, zero, suc, ◌<◌, ◌≤◌, ltb, Result, Ok, Err}
 use borrow.Author.Tests.{lt-ltb, le-ltb}
 use Rattle.octets.specs.Number.{be}
+use Rattle.refusals.specs.declared.Refusal.{Refusal}
+use Rattle.refusals.specs.Number.{number}
 use Rattle.refusals.specs.Refusal.{Rule, ◌when◌, first}
 use Rattle.timestamp.specs.declared.Stamped.{Stamped}
 use Rattle.timestamp.specs.Timestamp.{word_of}
@@ -19,6 +21,11 @@ stamp_rules minutes bias =
 
 abbrev pub refused : ℕ → Stamped
 refused number = record { refusal = number; octets = 0 ∷ 0 ∷ 0 ∷ 0 ∷ [] }
+
+-- the call's answer from what its code finds: octets, or why there are none
+abbrev pub stamped : Result (List ℕ) Refusal → Stamped
+stamped (Ok octets) = record { refusal = 0; octets = octets }
+stamped (Err r) = refused (number r)
 
 -- the octets of the timestamp's word, most significant first
 abbrev pub stamp_octets : ℕ → ℕ → List ℕ

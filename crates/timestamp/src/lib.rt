@@ -1,14 +1,17 @@
 // Timestamps: their seven fields in a 32-bit word, the local time of a minute, and the four octets that stand in a file.
 #![tactic(auto)]
 
-ghost use Rattle.std.specs.Prelude.{◌≡◌, ◌<◌, leb, cond};
+ghost use Rattle.std.specs.Prelude.{◌≡◌, ◌<◌};
 ghost use Rattle.timestamp.specs.Timestamp.{Narrow, narrow, right, word_of, fields_of};
-ghost use Rattle.timestamp.specs.LocalTime.{deviation, timestamp_of};
-ghost use Rattle.timestamp.specs.Stamp.{stamp_of, refused};
+ghost use Rattle.timestamp.specs.LocalTime.{timestamp_of};
+ghost use Rattle.timestamp.specs.Stamp.{stamp_of, stamped};
 
-// The fields from the top bit of the word on. A sign of 1 is plus; the deviation is how far local time is from UTC.
+use refusals::Refusal;
+
+// The fields from the top bit of the word on. A sign of 1 is plus; the deviation is how far local time is from UTC. C reads this struct: the sign is a
+// number.
 #[repr(C)]
-#[derive(Clone, Copy)]
+#[derive(Clone, Copy, Default)]
 pub struct Timestamp {
     pub month: u32,
     pub day: u32,
@@ -20,6 +23,7 @@ pub struct Timestamp {
 }
 
 // What `stamp` answers: a refusal, 0 for none, and the octets, zeros where it refused.
+// C reads this struct: a number with the octets beside it, and not a Result.
 #[repr(C)]
 #[derive(Clone, Copy)]
 pub struct Stamped {
@@ -27,7 +31,7 @@ pub struct Stamped {
     pub octets: [u8; 4],
 }
 
-// The word of a timestamp: each field is pushed in from the right.
+// The word of a timestamp: each field is pushed in from the right. A function and not `From`, which can require nothing.
 pub fn pack(t: Timestamp) -> u32
     requires { Narrow t }
     ensures { result ≡ word_of t }
@@ -40,7 +44,7 @@ pub fn pack(t: Timestamp) -> u32
     (deviated << 6) | t.dev_minute
 }
 
-// The timestamp of a word.
+// The timestamp of a word; no `From`, as it stands beside `pack`.
 pub fn unpack(w: u32) -> Timestamp
     ensures { result ≡ fields_of w }
 {
@@ -83,24 +87,6 @@ pub fn is_right(t: Timestamp) -> bool
         & (t.dev_minute <= 59)
 }
 
-// How far the offset is from 0, in minutes. The offset and 1,439 is `bias`, so that no number is signed.
-fn deviation_of(bias: u32) -> u32
-    ensures { result ≡ deviation bias }
-{
-    if 1439 <= bias {
-        bias - 1439
-    } else {
-        1439 - bias
-    }
-}
-
-// 1, plus, where the offset is not negative.
-fn sign_of(bias: u32) -> u32
-    ensures { result ≡ cond (leb 1439 bias) 1 0 }
-{
-    if 1439 <= bias { 1 } else { 0 }
-}
-
 // The timestamp of a minute at an offset. Local time counts from 1999-12-31 00:00, 1,440 minutes before the first minute.
 pub fn at(minutes: u32, bias: u32) -> Timestamp
     requires { (minutes < 52596000) × (bias < 2879) }
@@ -108,41 +94,41 @@ pub fn at(minutes: u32, bias: u32) -> Timestamp
 {
     let local = minutes + bias + 1;
     let date = calendar::local_date(local / 1440);
-    let dev = deviation_of(bias);
-    let sign = sign_of(bias);
+    // The offset and 1,439 is `bias`, so that no number is signed; the sign is 1, plus, where the offset is not negative.
+    let deviation = bias.abs_diff(1439);
     Timestamp {
         month: date.month,
         day: date.day,
         hour: local % 1440 / 60,
         minute: local % 60,
-        sign: sign,
-        dev_hour: dev / 60,
-        dev_minute: dev % 60,
+        sign: u32::from(1439 <= bias),
+        dev_hour: deviation / 60,
+        dev_minute: deviation % 60,
     }
 }
 
-// The answer of a refusal.
-fn refusal(number: u8) -> Stamped
-    ensures { result ≡ refused number }
+// The four octets of the timestamp of a minute at an offset, or a refusal: the minute's comes before the offset's.
+fn octets_of(minutes: u32, bias: u32) -> Result<[u8; 4], Refusal>
+    ensures { stamped result ≡ stamp_of minutes bias }
 {
-    Stamped {
-        refusal: number,
-        octets: [0, 0, 0, 0],
+    if 52595999 < minutes {
+        return Err(Refusal::Time);
     }
+    if 2878 < bias {
+        return Err(Refusal::Range);
+    }
+    Ok(pack(at(minutes, bias)).to_be_bytes())
 }
 
 // The four octets of the timestamp of a minute at an offset, or a refusal: 4 for the minute, 2 for the offset.
 pub fn stamp(minutes: u32, bias: u32) -> Stamped
     ensures { result ≡ stamp_of minutes bias }
 {
-    if 52595999 < minutes {
-        return refusal(4);
-    }
-    if 2878 < bias {
-        return refusal(2);
-    }
-    Stamped {
-        refusal: 0,
-        octets: octets::be32(pack(at(minutes, bias))),
+    match octets_of(minutes, bias) {
+        Ok(octets) => Stamped { refusal: 0, octets },
+        Err(refusal) => Stamped {
+            refusal: refusal.number(),
+            octets: [0; 4],
+        },
     }
 }

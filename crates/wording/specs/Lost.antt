@@ -1,7 +1,7 @@
 -- The lost octet in words (000, 6.1.1.11): a phrase for each of the clause's six cases, the words of each phrase, and what each phrase means of n,
 -- the losses that were counted in the file's time, of t, the records truly lost in it, and of u, that an unrouted record came in it. The words mean
 -- just what the octet says (`Says`, state), so that no two phrases hold at once: proofs/Meaning.antt.
-use Rattle.std.specs.Prelude.{◌≡◌, refl, Bool, true, false, cond, List, ◌++◌, ℕ, ◌-◌, ◌≤◌, ◌<◌, eqb, ltb}
+use Rattle.std.specs.Prelude.{◌≡◌, Bool, true, false, cond, List, ◌++◌, ℕ, ◌-◌, ◌≤◌, ◌<◌, eqb, ltb}
 use Rattle.std.proofs.Common.{ap, arith, ne_eqb, lt-ltb, le-ltb}
 use Rattle.std.proofs.Math.Decide.{ℕ_discrete}
 use Rattle.numerals.specs.Decimal.{decimal}

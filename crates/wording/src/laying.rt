@@ -3,7 +3,9 @@ ghost use Rattle.std.specs.Prelude.{◌+◌, ◌≤◌, length, [], ◌∷◌};
 ghost use Rattle.numerals.specs.Decimal.{width, decimal};
 ghost use Rattle.numerals.specs.Hexadecimal.{hex_of};
 ghost use Rattle.wording.specs.Laid.{Laid};
-ghost use Rattle.wording.specs.Numbered.{start};
+ghost use Rattle.wording.specs.Numbered.{start, numbered};
+
+use numerals::{hex_digit, put_decimal, width_of};
 
 pub fn lay(page: &mut [u8], at: usize, words: &[u8]) -> usize
     requires { at + length words.now ≤ length page.old }
@@ -17,8 +19,8 @@ pub fn lay_number(page: &mut [u8], at: usize, n: u32) -> usize
     requires { at + 10 ≤ length page.old }
     ensures { Laid page.old at (decimal n) page.new result × (result ≤ at + 10) }
 {
-    numerals::put_decimal(n, page, at);
-    at + numerals::width_of(n)
+    put_decimal(n, page, at);
+    at + width_of(n)
 }
 
 // A number, before its words.
@@ -30,14 +32,20 @@ pub fn lay_start(page: &mut [u8], at: usize, n: u32) -> usize
     lay(page, a, b", ")
 }
 
+// A number and its words.
+pub fn lay_numbered(page: &mut [u8], at: usize, n: u32, words: &[u8]) -> usize
+    requires { at + (12 + length words.now) ≤ length page.old }
+    ensures { Laid page.old at (numbered n words.now) page.new result }
+{
+    let a = lay_start(page, at, n);
+    lay(page, a, words)
+}
+
 fn lay_octet(page: &mut [u8], at: usize, octet: u8) -> usize
     requires { at + 2 ≤ length page.old }
     ensures { Laid page.old at (hex_of (octet ∷ [])) page.new result }
 {
-    let digits = [
-        numerals::hex_digit(octet / 16),
-        numerals::hex_digit(octet % 16),
-    ];
+    let digits = [hex_digit(octet / 16), hex_digit(octet % 16)];
     lay(page, at, &digits)
 }
 
@@ -47,10 +55,8 @@ pub fn lay_octets(page: &mut [u8], at: usize, octets: &[u8]) -> usize
     ensures { Laid page.old at (hex_of octets.now) page.new result }
 {
     let mut end = at;
-    let mut i: usize = 0;
-    while i < octets.len() {
-        end = lay_octet(page, end, octets[i]);
-        i += 1;
+    for octet in octets {
+        end = lay_octet(page, end, *octet);
     }
     end
 }

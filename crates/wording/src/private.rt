@@ -37,11 +37,9 @@ pub fn lay_private(page: &mut [u8], at: usize, statement: u8, private: &[u8]) ->
     requires { (at + (128 + (length private.now + length private.now)) ≤ length page.old) × (length private.now ≤ 1048576) }
     ensures { Laid page.old at (private_words statement private.now) page.new result }
 {
-    if statement == 0 {
-        return lay(page, at, b"none");
+    match statement {
+        0 => lay(page, at, b"none"),
+        1 => lay(page, at, b"empty"),
+        _ => lay_some(page, at, private),
     }
-    if statement == 1 {
-        return lay(page, at, b"empty");
-    }
-    lay_some(page, at, private)
 }

@@ -1,8 +1,7 @@
 -- Any 360 words of 32 bits are those of a state that has room in its words (Laws, `Held`). Assumes nothing.
-use Rattle.std.specs.Prelude.{◌≡◌, refl, Bool, true, false, cond, List, [], ◌∷◌, ℕ, ◌+◌, ◌-◌, ◌*◌, ◌<◌, leb, length, get_or, drop}
-use Rattle.std.proofs.Common.{sym, ap, subst, arith, length-drop, get_or-drop, leb-false}
+use Rattle.std.specs.Prelude.{◌≡◌, refl, Bool, true, false, cond, List, ℕ, ◌+◌, ◌-◌, ◌*◌, ◌<◌, leb, length, get_or, drop}
+use Rattle.std.proofs.Common.{sym, subst, arith, length-drop, get_or-drop, leb-false}
 use Rattle.octets.specs.Number.{Octets, octets_nil, octets_cons}
-use Rattle.state.specs.declared.Route.{Route}
 use Rattle.words.specs.Words.{octets_in, release_in, rest_of, route_in, manager_in}
 use Rattle.words.specs.Laws.{HeldRelease, HeldRoute, Held, routes_eight, route_in_lem}
 

@@ -3,7 +3,7 @@
 -- Assumes nothing.
 use Rattle.std.specs.Prelude.{◌≡◌, refl, Bool, true, false, cond, ◌&&◌, List, [], ◌∷◌, ◌++◌, ℕ, zero, suc, ◌+◌, ◌-◌, ◌*◌, ◌≤◌, ◌<◌, ltb, eqb, length, get_or, set, take}
 use Rattle.std.proofs.Math.Path.{sym, ap}
-use Rattle.std.proofs.Common.{◌∙◌, subst, zero-add, suc-add, length-set, length-drop, get_or-set_same, get_or-set_other, lt-ltb, le-ltb, leb-true, le-leb, eqb-true, eq-eqb}
+use Rattle.std.proofs.Common.{◌∙◌, subst, zero-add, suc-add, length-set, length-drop, get_or-take, lit<, get_or-set_same, get_or-set_other, lt-ltb, le-ltb, leb-true, le-leb, eqb-true, eq-eqb}
 use native.Mathlib.Omega.{arith}
 use Rattle.std.proofs.Math.Decide.{dec_lt, ℕ_discrete}
 use Rattle.std.proofs.Math.ListN.{drop}
@@ -20,7 +20,7 @@ use Rattle.state.specs.declared.Node.{Node}
 use Rattle.state.specs.Manager.{Manager}
 use Rattle.state.specs.Manager.{no_route, route_at, settings_at, node_of, with_route, with_time}
 use Rattle.state.specs.Bounds.{same_filter}
-use Rattle.words.specs.Words.{packed, octet1, octet2, octet3, octet4, flagged, flag_of, rest_of, release_in, octets_in, filter_in, address_in, settings_in, route_in, routes_in, manager_in, with_release, four_at, fixed_words, changing_words, route_words, routes_words, node_words, words_of}
+use Rattle.words.specs.Words.{packed, octet1, octet2, octet3, octet4, flagged, flag_of, rest_of, release_in, octets_in, filter_in, address_in, settings_in, file_in, route_in, routes_in, manager_in, with_release, four_at, fixed_words, changing_words, route_words, routes_words, node_words, words_of}
 
 -- Four octets.
 pub packed_word : (w : ℕ) → packed (octet1 w) (octet2 w) (octet3 w) (octet4 w) ≡ w
@@ -346,6 +346,56 @@ module _ (xs : List ℕ) (i : ℕ) (h : i < 8) where
   pub part_settings : settings_in (take (length xs - (8 + 19 * i)) (drop (8 + 19 * i) xs)) ≡ settings_at (manager_in xs) i
   unfolding route_in
   part_settings = ap settings_in (from_here xs (8 + 19 * i)) ∙ sym (ap (λ (r : Route). r.settings) (route_in_lem xs i h))
+
+-- What a route's nineteen words say is what all the words from there on say.
+module _ (xs : List ℕ) where
+  pub word_in : (k : ℕ) → k < 19 → get_or (take 19 xs) k 0 ≡ get_or xs k 0
+  word_in k h = get_or-take 19 xs k 0 h
+
+  pub settings_in_lem : settings_in (take 19 xs) ≡ settings_in xs
+  settings_in_lem =
+      λ i. record {
+        filter = filter_in (word_in 0 (lit< tt) i) (word_in 1 (lit< tt) i) (word_in 2 (lit< tt) i) (word_in 3 (lit< tt) i) (word_in 4 (lit< tt) i);
+        octets = octet1 (word_in 5 (lit< tt) i);
+        limit = word_in 6 (lit< tt) i;
+        age = word_in 7 (lit< tt) i;
+        most = word_in 8 (lit< tt) i;
+        flag = octet1 (word_in 16 (lit< tt) i);
+        release = release_in (word_in 5 (lit< tt) i);
+      }
+
+  pub file_in_lem : file_in (take 19 xs) ≡ file_in xs
+  file_in_lem =
+      λ i. record {
+        sequence = word_in 12 (lit< tt) i;
+        opened = rest_of (word_in 13 (lit< tt) i);
+        appended = word_in 14 (lit< tt) i;
+        high = release_in (word_in 15 (lit< tt) i);
+        low = release_in (word_in 16 (lit< tt) i);
+        format = octet1 (word_in 15 (lit< tt) i);
+        count = word_in 17 (lit< tt) i;
+        octets = word_in 18 (lit< tt) i;
+      }
+
+  pub route_words_in : route_in (take 19 xs) ≡ route_in xs
+  unfolding route_in
+  route_words_in =
+      λ i. record {
+        settings = settings_in_lem i;
+        next = word_in 9 (lit< tt) i;
+        losses = word_in 10 (lit< tt) i;
+        unrouted = word_in 11 (lit< tt) i;
+        «open» = flag_of (word_in 13 (lit< tt) i);
+        file = file_in_lem i;
+      }
+
+module _ (xs : List ℕ) (i : ℕ) (h : i < 8) where
+  pub route_there : route_in (take 19 (drop (8 + 19 * i) xs)) ≡ route_at (manager_in xs) i
+  route_there = route_words_in (drop (8 + 19 * i) xs) ∙ sym (route_in_lem xs i h)
+
+  pub settings_there : settings_in (take 19 (drop (8 + 19 * i) xs)) ≡ settings_at (manager_in xs) i
+  unfolding route_in
+  settings_there = settings_in_lem (drop (8 + 19 * i) xs) ∙ sym (ap (λ (r : Route). r.settings) (route_in_lem xs i h))
 
 -- Two filters are the same exactly where their lengths and their words are.
 pub same_test : (a b : Bool) → (a ≡ true → b ≡ true) → (b ≡ true → a ≡ true) → a ≡ b

@@ -5,7 +5,13 @@ mod reading;
 mod writing;
 
 pub use reading::{
-    count_of, file_in, flag_of, node_of, release_in, route_at, set_count, set_minute, settings_at,
-    settings_in, top_of,
+    count_of, file_in, flag_of, node_of, release_in, route_at, route_words, set_count, set_minute,
+    settings_at, settings_in, top_of,
 };
-pub use writing::{copy, packed, put, put_route};
+pub use writing::{packed, put, put_route};
+
+// The words of a state.
+pub type Words = [u32; 360];
+
+// The words of one of its eight routes.
+pub type RouteWords = [u32; 19];

@@ -1,11 +1,13 @@
 -- The cases of `write_of` (Writer), one for each way out of the call, and what the tests before the layout say of the header's
 -- fields and of the file's size. Document 01, Reader, second paragraph, and Refusals. Assumes nothing.
-use Rattle.std.specs.Prelude.{◌≡◌, Bool, true, false, cond, not, ◌&&◌, ◌||◌, List, [], ◌∷◌, ◌++◌, ℕ, ◌+◌, ◌≤◌, ◌<◌, eqb, ltb, length}
+use Rattle.std.specs.Prelude.{◌≡◌, Bool, true, false, cond, not, ◌&&◌, ◌||◌, List, [], ◌∷◌, ◌++◌, ℕ, ◌+◌, ◌≤◌, ◌<◌, eqb, ltb, length, Result, Ok, Err}
 use Rattle.std.proofs.Math.Path.{sym}
 use Rattle.std.proofs.Common.{arith}
 use borrow.Author.Tests.{lt-ltb, le-ltb, ltb-false, eq-eqb, ne_eqb, eqb-true, not-false}
 use Rattle.octets.specs.Number.{be}
 use Rattle.octets.specs.Splice.{splice}
+use Rattle.refusals.specs.declared.Refusal.{Refusal}
+use Rattle.refusals.specs.Number.{number, needed}
 use Rattle.refusals.specs.Refusal.{Rule, ◌when◌, passed, or_false}
 use Rattle.refusals.specs.Tests.{both}
 use Rattle.timestamp.specs.Timestamp.{narrow, right, narrow_bounds}
@@ -26,6 +28,11 @@ use Rattle.writer.specs.Count.{four_each}
 -- the call's answer from its two numbers
 abbrev pub answered : ℕ → ℕ → Written
 answered refusal octets = record { refusal = refusal; octets = octets }
+
+-- the same from what its code finds: how long the file is, or why it is refused
+abbrev pub answer_of : Result ℕ Refusal → Written
+answer_of (Ok length) = answered 0 length
+answer_of (Err r) = answered (number r) (needed r)
 
 -- none of 2, 10, 11 and 13 applies
 pub record Passed (h : Header) (filter private records : List ℕ) : Type 0 where

@@ -5,7 +5,6 @@ use mathlib.Core.List.{List, [], ◌++◌, append-nil}
 use lib.ListN.{length, take, drop, set, length-drop, drop_of_length-le}
 use borrow.Rule.Slice.PartMut.{put_mid, Post-is}
 use Rattle.words.specs.Laws.{from_here}
-use Rattle.words.specs.HeldIn.{Words32}
 use Rattle.events.specs.Lent.{Left, left}
 use Rattle.octets.specs.Number.{Octets}
 use Rattle.packets.specs.Packet.{size_of, first_of}
@@ -50,13 +49,13 @@ taken t z = sym (ap (λ (y : Left). y.answer.refusal) (x_is t)) ∙ z
 
 pub loop-i-init : goal.loop-i-init
 loop-i-init c =
-    taking_begins c.args.packet.now c.args.words.now c.args.store.now c.args.output.now c.untried-r.ensures c.requires.0
-    (record { at = λ i. omega (arith, c.type_inv.words i) }) c.requires.1 c.requires.2 c.requires.3
+    taking_begins c.args.packet.now c.args.words.now c.args.store.now c.args.output.now c.untried-r.ensures c.told-words
+    (record { at = c.fits-words }) c.requires.0 c.requires.1 c.requires.2
 
 pub take_at-answer-requires : goal.take_at-answer-requires
 take_at-answer-requires c =
     let l = c.loop-i in
-    (l.invariant.number, l.invariant.right, taking_fits l.invariant c.loop-i-test.true)
+    (l.invariant.right, taking_fits l.invariant c.loop-i-test.true)
 
 pub offset_bounds-r-i : goal.offset_bounds-r-i
 offset_bounds-r-i c = omega (arith, low (goal.at.offset_bounds-r-i c).After-take_at-answer)
@@ -89,15 +88,12 @@ overflow_add-used c =
       l.invariant.wide,
     )
 
-pub size_at-size-requires : goal.size_at-size-requires
-size_at-size-requires c = omega (arith, taking_fits c.loop-i.invariant (more (goal.at.size_at-size-requires c).After-take_at-answer))
+pub size_at-at-requires : goal.size_at-at-requires
+size_at-at-requires c = omega (arith, taking_fits c.loop-i.invariant (more (goal.at.size_at-at-requires c).After-take_at-answer))
 
 pub overflow_add-at : goal.overflow_add-at
 overflow_add-at c =
-    omega (arith, c.size_at-size.ensures.0, taking_fits c.loop-i.invariant (more (goal.at.overflow_add-at c).After-take_at-answer))
-
-pub overflow_add-i : goal.overflow_add-i
-overflow_add-i c = omega (arith, low (goal.at.overflow_add-i c).After-take_at-answer)
+    omega (arith, c.size_at-at.ensures.0, taking_fits c.loop-i.invariant (more (goal.at.overflow_add-at c).After-take_at-answer))
 
 pub loop-i-preserved : goal.loop-i-preserved
 loop-i-preserved c =
@@ -105,11 +101,10 @@ loop-i-preserved c =
     let l = c.loop-i in
     let s = c.args in
     let e = x_is (goal.at.loop-i-preserved c).After-take_at-answer in
-    let size = c.size_at-size.ensures.0 in
-    let bits : Words32 c.take_at-answer.new.words = record { at = λ i. omega (arith, c.type_inv.words i) } in
+    let size = c.size_at-at.ensures.0 in
     let same : length (x (goal.at.loop-i-preserved c).After-take_at-answer).output ≡ length (drop l.used l.output) =
     sym (ap (λ (y : Left). length y.output) e) ∙ c.output-1.given.0 ∙ ap length (from_here l.output l.used) in
-    let next = taking_next l.invariant (more (goal.at.loop-i-preserved c).After-take_at-answer) (octets (goal.at.loop-i-preserved c).After-take_at-answer) (taken (goal.at.loop-i-preserved c).After-take_at-answer accepted) same (subst (λ (y : Left). Words32 y.words) e bits) refl in
+    let next = taking_next l.invariant (more (goal.at.loop-i-preserved c).After-take_at-answer) (octets (goal.at.loop-i-preserved c).After-take_at-answer) (taken (goal.at.loop-i-preserved c).After-take_at-answer accepted) same refl in
     let there : (y : Left) (out : List ℕ) (k : ℕ) → Type 0 = λ (y : Left) (out : List ℕ) (k : ℕ). Taking s.packet.now s.n s.words.now s.store.now s.output.now y.words y.store out
     (record { refusal = l.r.refusal; accepted = l.r.accepted; answers = set l.r.answers l.i y.answer }) (l.at + k) (l.used + y.answer.octets) (l.i + 1) in
     let y = left c.take_at-answer.result c.take_at-answer.new.words c.take_at-answer.new.store c.take_at-answer.new.output in

@@ -1,9 +1,10 @@
 -- `cdrfile::lay_out` meets its contract: the pieces are written one behind another, and the file that fits leaves room for
 -- each. Assumes nothing.
-use mathlib.Core.Path.{◌∙◌}
+use mathlib.Core.Path.{◌∙◌, sym}
 use Prim.Native.Nat.{◌+◌, ◌≤◌}
 use native.Mathlib.Omega.{arith}
 use lib.ListN.{length}
+use Rattle.record.specs.Release.{extension_count}
 use Rattle.cdrfile.specs.File.{header_length, private_octets, fixed_octets}
 use Rattle.cdrfile.specs.Laws.{file_length, fifty, private_least, laid_file}
 use Rattle.cdrfile.proofs.lay_out.Goals as goal
@@ -49,7 +50,7 @@ put_extension-requires c =
 
 pub put_extension-requires-2 : goal.put_extension-requires-2
 put_extension-requires-2 c =
-    omega (arith, sizes (goal.at.put_extension-requires-2 c).Start, c.copy.auto.dst, c.copy-2.auto.dst, c.put_private.auto.output, c.put_extension.auto.output, c.private_length.ensures.0, c.extension_length.ensures.0)
+    omega (arith, sizes (goal.at.put_extension-requires-2 c).Start, c.copy.auto.dst, c.copy-2.auto.dst, c.put_private.auto.output, c.put_extension.auto.output, c.private_length.ensures.0, c.extension_length.ensures.is, extension_count c.args.h.high)
 
 pub copy-requires-3 : goal.copy-requires-3
 copy-requires-3 c =
@@ -60,7 +61,7 @@ returns c =
     let a = c.args in
     let header = c.header_length-header.ensures in
     let private = c.private_length.ensures.0 in
-    let high = c.extension_length.ensures.0 in
+    let high = c.extension_length.ensures.is ∙ sym (extension_count a.h.high) in
     laid_file a.h a.filter.now a.private.now a.body.now a.count a.output.now
     (c.fixed_octets-fixed.ensures ∙ (λ i. fixed_octets (header i + length a.body.now) (header i) a.count (length a.filter.now) a.h))
     c.copy.ensures

@@ -7,11 +7,6 @@ use Rattle.record.specs.Release.{extension_octets}
 use Rattle.cdrfile.specs.Laws.{extension_none, extension_seven}
 use Rattle.cdrfile.proofs.put_extension.Goals as goal
 
-pub bounds-output-at : goal.bounds-output-at
-bounds-output-at c =
-    let e : length (extension_octets c.args.r) ≡ 1 = ap length (extension_seven c.args.r c.if-r-eq7.true) in
-    omega (arith, c.requires)
-
 pub returns-then-r-eq7 : goal.returns-then-r-eq7
 returns-then-r-eq7 c =
     let e = extension_seven c.args.r c.if-r-eq7.true in

@@ -16,7 +16,7 @@ returns-then-statement-eq0 c =
 
 pub copy-requires : goal.copy-requires
 copy-requires c =
-    omega (arith, c.requires, ap length c.be16.ensures, private_some_length c.args.statement c.args.private.now c.if-statement-eq0.false)
+    omega (arith, c.requires, ap length c.be.ensures, private_some_length c.args.statement c.args.private.now c.if-statement-eq0.false)
 
 pub copy-requires-2 : goal.copy-requires-2
 copy-requires-2 c =
@@ -29,6 +29,6 @@ returns c =
     let n = private_some_length a.statement a.private.now some in
     let two = be 2 (length a.private.now) in
     c.copy-2.ensures
-    ∙ ap (λ (o : List ℕ). splice o (a.at + 2) a.private.now) (c.copy.ensures ∙ ap (splice a.output.now a.at) c.be16.ensures)
+    ∙ ap (λ (o : List ℕ). splice o (a.at + 2) a.private.now) (c.copy.ensures ∙ ap (splice a.output.now a.at) c.be.ensures)
     ∙ splice_then a.output.now a.at two (omega (arith, c.requires)) a.private.now (a.at + 2) refl
     ∙ ap (splice a.output.now a.at) (sym (private_some a.statement a.private.now some))

@@ -7,10 +7,6 @@ use lib.ListN.{length}
 use Rattle.filing.specs.Laws.{layable, closed}
 use Rattle.filing.proofs.close_into.Goals as goal
 
-pub overflow_add-end : goal.overflow_add-end
-overflow_add-end c =
-    omega (arith, c.requires.records)
-
 pub lay_out-requires : goal.lay_out-requires
 lay_out-requires c =
     let a = c.args in

@@ -9,4 +9,4 @@ returns c =
     let a = c.args in
     let w = c.width_of-leading in
     c.copy.ensures
-    ∙ ap (splice a.output.now a.at) (decimal_part a.n w.result c.ten_digits-ten.result w.ensures.0 w.ensures.2 c.ten_digits-ten.ensures)
+    ∙ ap (splice a.output.now a.at) (decimal_part a.n w.result c.digits-ten.result w.ensures.0 w.ensures.2 c.digits-ten.ensures)

@@ -1,55 +1,37 @@
-use mathlib.Core.Path.{sym, subst}
-use Prim.Native.Nat.{ℕ, ◌+◌, ◌<◌}
-use native.Mathlib.Omega.{arith}
-use Rattle.packets.proofs.Walk.{Walking, walk_begins, walk_ends, walk_many, walk_cut, walk_on}
+-- `packets::count_of` meets its contract: the walk is the definition's, from record to record. Assumes nothing.
+use Rattle.std.proofs.Common.{◌≡◌, ℕ, Result, Ok, Err, IsErr, refl, ◌∙◌, arith}
+use Rattle.std.proofs.lemmas.Bool.{false≢true}
+use Rattle.refusals.specs.declared.Refusal.{Refusal}
+use Rattle.packets.specs.Packet.{counted}
+use Rattle.packets.proofs.Walk.{rest_begins, rest_ends, rest_many, rest_cut, rest_on}
 use Rattle.packets.proofs.count_of.Goals as goal
-use Rattle.packets.proofs.count_of.Goals.{Else-n-eq64}
 
--- fewer than 64 so far
-more : (c : goal.Else-n-eq64) → c.loop-at.n < 64
-more c = omega (arith, c.if-n-eq64.false, c.loop-at.invariant.few)
+-- a refusal counts as 65
+refused : (r : Result ℕ Refusal) → IsErr r → counted r ≡ 65
+refused (Ok n) e = absurd (false≢true e)
+refused (Err r) e = refl
 
-pub loop-at-init : goal.loop-at-init
-loop-at-init c = walk_begins c.args.packet.now
+pub loop-n-init : goal.loop-n-init
+loop-n-init c = rest_begins c.args.packet.now
 
-pub returns-then-n-eq64 : goal.returns-then-n-eq64
-returns-then-n-eq64 c = walk_many c.loop-at.invariant c.loop-at-test.true c.if-n-eq64.true
+pub returns-then-is_empty-clause-count : goal.returns-then-is_empty-clause-count
+returns-then-is_empty-clause-count c = rest_ends c.loop-n.invariant c.if-is_empty.ensures
 
-pub overflow_sub-packet : goal.overflow_sub-packet
-overflow_sub-packet c = c.loop-at.invariant.inside
+pub returns-in_err-rest-clause-count : goal.returns-in_err-rest-clause-count
+returns-in_err-rest-clause-count c =
+    refused c.from_residual.result c.from_residual.ensures.0
+    ∙ rest_cut c.loop-n.invariant c.if-is_empty.ensures c.loop-n-test.true c.in_err-rest.ensures.cut.1
 
-pub returns-then-packet-at-lt15 : goal.returns-then-packet-at-lt15
-returns-then-packet-at-lt15 c =
-    walk_cut c.loop-at.invariant c.loop-at-test.true (more (goal.at.returns-then-packet-at-lt15 c).Else-n-eq64) (omega (arith, c.if-packet-at-lt15.true))
+pub loop-n-preserved : goal.loop-n-preserved
+loop-n-preserved c =
+    let whole = c.in_ok-rest.ensures.whole in
+    rest_on c.loop-n.invariant c.if-is_empty.ensures c.loop-n-test.true whole.0 whole.1
 
-pub size_at-size-requires : goal.size_at-size-requires
-size_at-size-requires c = omega (arith, c.if-packet-at-lt15.false, c.loop-at.invariant.inside)
+pub returns-then-is_empty-2-clause-count : goal.returns-then-is_empty-2-clause-count
+returns-then-is_empty-2-clause-count c =
+    let all : 64 ≡ c.loop-n.n = omega (arith, c.loop-n-test.false, c.loop-n.auto.n-end) in
+    all ∙ rest_ends c.loop-n.invariant c.if-is_empty-2.ensures
 
-pub overflow_sub-packet-in-loop-at : goal.overflow_sub-packet-in-loop-at
-overflow_sub-packet-in-loop-at c = c.loop-at.invariant.inside
-
-pub returns-then-packet-at : goal.returns-then-packet-at
-returns-then-packet-at c =
-    walk_cut c.loop-at.invariant c.loop-at-test.true (more (goal.at.returns-then-packet-at c).Else-n-eq64) (omega (arith, c.if-packet-at.true, c.size_at-size.ensures.0))
-
-pub overflow_add-at : goal.overflow_add-at
-overflow_add-at c =
-    let l = c.loop-at in
-    omega (arith, c.if-packet-at.false, l.invariant.inside)
-
-pub overflow_add-n : goal.overflow_add-n
-overflow_add-n c = omega (arith, more (goal.at.overflow_add-n c).Else-n-eq64)
-
-pub loop-at-smaller : goal.loop-at-smaller
-loop-at-smaller c =
-    omega (arith, c.if-packet-at.false, c.loop-at-test.true, c.size_at-size.ensures.0)
-
-pub loop-at-preserved : goal.loop-at-preserved
-loop-at-preserved c =
-    let l = c.loop-at in
-    let xs = c.args.packet.now in
-    let size = c.size_at-size.ensures.0 in
-    subst (λ (k : ℕ). Walking xs (l.at + k) (l.n + 1)) (sym size) (walk_on l.invariant c.loop-at-test.true (more (goal.at.loop-at-preserved c).Else-n-eq64) (omega (arith, c.if-packet-at.false, size)))
-
-pub returns : goal.returns
-returns c = walk_ends c.loop-at.invariant c.loop-at-test.false
+pub returns-else-is_empty-2-clause-count : goal.returns-else-is_empty-2-clause-count
+returns-else-is_empty-2-clause-count c =
+    rest_many c.loop-n.invariant c.if-is_empty-2.ensures (omega (arith, c.loop-n-test.false, c.loop-n.auto.n-end))

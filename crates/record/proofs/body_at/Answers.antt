@@ -1,47 +1,36 @@
--- `record::body_at` meets its contract: where the step finds a record, its lengths lie within the file. Assumes nothing.
-use mathlib.Core.Path.{◌≡◌, ◌∙◌, sym, ap}
-use Prim.Native.Nat.{◌+◌, ◌-◌, ◌≤◌}
+-- `record::body_at` meets its contract: where a whole record is found, its lengths lie within the file. Assumes nothing.
+use mathlib.Core.Path.{◌≡◌, ◌∙◌, sym, ap, refl}
+use Prim.Native.Nat.{◌+◌, ◌-◌}
 use native.Mathlib.Omega.{arith}
-use lib.ListN.{length, take, drop, length-drop}
-use lib.Seq.{drop-drop}
-use Rattle.record.specs.Step.{header_at, body_length_at, Taken, taken, untaken, body_cut, body_whole}
+use lib.ListN.{take, drop}
+use Rattle.record.specs.Step.{stepped, header_at, body_length_at, cut, refused_step, Taken, taken, untaken, body_cut, body_whole}
+use Rattle.std.specs.Prelude.{Some}
 use Rattle.record.proofs.body_at.Goals as goal
-use Rattle.record.proofs.body_at.Goals.{Else-s-ne0}
+use Rattle.record.proofs.body_at.Goals.{In-Some}
 
--- what the step that was taken says of the file's part from the offset on
-found : (c : goal.Else-s-ne0) → Taken (drop c.args.at c.args.file.now) c.step_at-s.result
-found c = taken _ _ c.step_at-s.ensures c.if-s-ne0.false
+-- what the record that was found says of the rest of the file
+within : (c : goal.In-Some) → Taken c.rest_at-part.result.now (stepped (Some c.in-Some.found))
+within c = taken _ _ c.in-Some.ensures refl
 
--- so the record lies within the file
-inside_file : (c : goal.Else-s-ne0)
-    → c.args.at + c.step_at-s.result.header + c.step_at-s.result.body
-    ≤ length c.args.file.now
-inside_file c =
-    let a = c.args in
-    let f = found c in
-    omega (arith, f.within, f.some, length-drop a.at a.file.now)
-
-pub returns-then-s-ne0 : goal.returns-then-s-ne0
-returns-then-s-ne0 c =
-    let a = c.args in
-    sym (body_cut a.file.now a.at (untaken _ _ c.step_at-s.ensures c.if-s-ne0.true))
-
-pub overflow_add-start : goal.overflow_add-start
-overflow_add-start c = omega (arith, inside_file (goal.at.overflow_add-start c).Else-s-ne0)
+pub returns-in_default : goal.returns-in_default
+returns-in_default c =
+    sym (body_cut c.args.file.now c.args.at (ap cut (sym c.rest_at-part.ensures) ∙ untaken _ refused_step c.in_default.ensures (λ z. absurd (omega (arith, z)))))
 
 pub overflow_add-end : goal.overflow_add-end
-overflow_add-end c = omega (arith, inside_file (goal.at.overflow_add-end c).Else-s-ne0)
+overflow_add-end c = omega (arith, (within (goal.at.overflow_add-end c).In-Some).within)
 
 pub slice_bounds-result-end-2 : goal.slice_bounds-result-end-2
-slice_bounds-result-end-2 c = omega (arith, inside_file (goal.at.slice_bounds-result-end-2 c).Else-s-ne0)
+slice_bounds-result-end-2 c = omega (arith, (within (goal.at.slice_bounds-result-end-2 c).In-Some).within)
 
 pub returns : goal.returns
 returns c =
-    let a = c.args in
-    let r = c.step_at-s.result in
-    let f = found (goal.at.returns c).Else-s-ne0 in
-    let file = a.file.now in
-    let n : a.at + r.header + r.body - (a.at + r.header) ≡ body_length_at (drop a.at file) = omega (arith, f.body) in
-    (λ i. take (n i) (drop (a.at + f.header i) file))
-    ∙ ap (take (body_length_at (drop a.at file))) (sym (drop-drop (header_at (drop a.at file)) a.at file))
-    ∙ sym (body_whole file a.at f.whole)
+    let file = c.args.file.now in
+    let at = c.args.at in
+    let part = c.rest_at-part.result.now in
+    let rest = c.rest_at-part.ensures in
+    let f = within (goal.at.returns c).In-Some in
+    let header = c.in-Some.found.header in
+    let n : header + c.in-Some.found.body - header ≡ body_length_at part = omega (arith, f.body) in
+    (λ i. take (n i) (drop (f.header i) part))
+    ∙ (λ i. take (body_length_at (rest i)) (drop (header_at (rest i)) (rest i)))
+    ∙ sym (body_whole file at (ap cut (sym rest) ∙ f.whole))

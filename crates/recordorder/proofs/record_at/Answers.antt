@@ -1,42 +1,32 @@
--- `recordorder::record_at` meets its contract: where the step finds a record, it lies within the file.
-use mathlib.Core.Path.{◌≡◌, ◌∙◌, sym, ap}
-use Prim.Native.Nat.{ℕ, ◌+◌, ◌-◌, ◌≤◌}
-use native.Mathlib.Omega.{arith}
-use lib.ListN.{length, take, drop, length-drop}
-use Rattle.record.specs.Step.{record_length_at, Taken, taken, untaken}
+-- `recordorder::record_at` meets its contract: where a whole record is found, it lies within the file.
+use Rattle.std.proofs.Common.{◌≡◌, ◌∙◌, refl, sym, ap, arith, ◌+◌, ◌-◌, take}
+use Rattle.std.specs.Prelude.{Some}
+use Rattle.record.specs.Step.{stepped, cut, refused_step, record_length_at, Taken, taken, untaken}
 use Rattle.recordorder.specs.At.{at_cut, at_whole}
 use Rattle.recordorder.proofs.record_at.Goals as goal
-use Rattle.recordorder.proofs.record_at.Goals.{Else-s-ne0}
+use Rattle.recordorder.proofs.record_at.Goals.{In-Some}
 
--- what the step says of the file's part from the offset on
-found : (c : goal.Else-s-ne0) → Taken (drop c.args.at c.args.file.now) c.step_at-s.result
-found c = taken _ _ c.step_at-s.ensures c.if-s-ne0.false
+-- what the record that was found says of the rest of the file
+found : (c : goal.In-Some) → Taken c.rest_at-part.result.now (stepped (Some c.in-Some.whole))
+found c = taken _ _ c.in-Some.ensures refl
 
--- so the record lies within the file
-inside_file : (c : goal.Else-s-ne0) → c.args.at + (c.step_at-s.result.header + c.step_at-s.result.body) ≤ length c.args.file.now
-inside_file c =
-    let a = c.args in
-    let f : Taken (drop a.at a.file.now) c.step_at-s.result = taken _ _ c.step_at-s.ensures c.if-s-ne0.false in
-    omega (arith, f.within, f.some, length-drop a.at a.file.now)
-
-pub returns-then-s-ne0 : goal.returns-then-s-ne0
-returns-then-s-ne0 c =
-    let a = c.args in
-    c.rest_at.ensures ∙ sym (at_cut a.file.now a.at (untaken _ _ c.step_at-s.ensures c.if-s-ne0.true))
-
-pub overflow_add-body : goal.overflow_add-body
-overflow_add-body c = omega (arith, inside_file (goal.at.overflow_add-body c).Else-s-ne0)
+pub returns-in_default : goal.returns-in_default
+returns-in_default c =
+    let e = c.rest_at-part.ensures in
+    e ∙ sym (at_cut c.args.file.now c.args.at (ap cut (sym e) ∙ untaken _ refused_step c.in_default.ensures (λ z. absurd (omega (arith, z)))))
 
 pub overflow_add-end : goal.overflow_add-end
-overflow_add-end c = omega (arith, inside_file (goal.at.overflow_add-end c).Else-s-ne0)
+overflow_add-end c = omega (arith, (found (goal.at.overflow_add-end c).In-Some).within)
 
 pub slice_bounds-result-end : goal.slice_bounds-result-end
-slice_bounds-result-end c = omega (arith, inside_file (goal.at.slice_bounds-result-end c).Else-s-ne0)
+slice_bounds-result-end c = omega (arith, (found (goal.at.slice_bounds-result-end c).In-Some).within)
 
 pub returns : goal.returns
 returns c =
     let a = c.args in
-    let r = c.step_at-s.result in
-    let f = found (goal.at.returns c).Else-s-ne0 in
-    let n : a.at + r.header + r.body - a.at ≡ record_length_at (drop a.at a.file.now) = omega (arith, f.header, f.body) in
-    ap (λ (k : ℕ). take k (drop a.at a.file.now)) n ∙ sym (at_whole a.file.now a.at f.whole)
+    let e = c.rest_at-part.ensures in
+    let f = found (goal.at.returns c).In-Some in
+    let n : c.in-Some.whole.header + c.in-Some.whole.body - 0 ≡ record_length_at c.rest_at-part.result.now = omega (arith, f.header, f.body) in
+    (λ i. take (n i) c.rest_at-part.result.now)
+    ∙ (λ i. take (record_length_at (e i)) (e i))
+    ∙ sym (at_whole a.file.now a.at (ap cut (sym e) ∙ f.whole))

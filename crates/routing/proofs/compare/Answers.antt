@@ -21,7 +21,7 @@ same f =
 
 few_same : (f : goal.After-same_first-same) → f.same_first-same.result ≤ 20
 few_same f =
-    few f.args.part.now f.args.key.now f.args.five.now (octets f) f.requires.2 f.requires.1 (same f)
+    few f.args.part.now f.args.key.now f.args.five.now (octets f) f.requires.1 f.requires.0 (same f)
 
 pub returns-then-key-octets : goal.returns-then-key-octets
 returns-then-key-octets c =
@@ -42,7 +42,7 @@ returns-then-same-octets c =
     let o = octets (goal.at.returns-then-same-octets c).After-same_first-same in
     let room : (settings_in xs).octets ≤ length key = omega (arith, c.if-key-octets.false, c.top_of-octets.ensures) in
     let less : c.same_first-same.result < (settings_in xs).octets = omega (arith, c.if-same-octets.true, c.top_of-octets.ensures) in
-    (differs_unfit xs key five o c.requires.2 c.requires.1 (same (goal.at.returns-then-same-octets c).After-same_first-same) less, differs_compared xs key five o c.requires.2 c.requires.1 (same (goal.at.returns-then-same-octets c).After-same_first-same) room less)
+    (differs_unfit xs key five o c.requires.1 c.requires.0 (same (goal.at.returns-then-same-octets c).After-same_first-same) less, differs_compared xs key five o c.requires.1 c.requires.0 (same (goal.at.returns-then-same-octets c).After-same_first-same) room less)
 
 pub returns : goal.returns
 returns c =
@@ -52,4 +52,4 @@ returns c =
     let o = octets (goal.at.returns c).After-same_first-same in
     let room : (settings_in xs).octets ≤ length key = omega (arith, c.if-key-octets.false, c.top_of-octets.ensures) in
     let all : (settings_in xs).octets ≤ c.same_first-same.result = omega (arith, c.if-same-octets.false, c.top_of-octets.ensures) in
-    (same_fits xs key five o c.requires.2 c.requires.1 (same (goal.at.returns c).After-same_first-same) room all, c.top_of-octets.ensures ∙ same_compared xs key five o c.requires.2 c.requires.1 (same (goal.at.returns c).After-same_first-same) room all)
+    (same_fits xs key five o c.requires.1 c.requires.0 (same (goal.at.returns c).After-same_first-same) room all, c.top_of-octets.ensures ∙ same_compared xs key five o c.requires.1 c.requires.0 (same (goal.at.returns c).After-same_first-same) room all)

@@ -4,4 +4,4 @@ use Rattle.settings.proofs.filter_words.Goals as goal
 
 pub returns : goal.returns
 returns c =
-    filter_made c.args.octets.now c.args.k c.num32-a.ensures c.num32-b.ensures c.num32-c.ensures c.num32-d.ensures c.num32-e.ensures
+    filter_made c.args.octets.now c.args.k c.num-a.ensures c.num-b.ensures c.num-c.ensures c.num-d.ensures c.num-e.ensures

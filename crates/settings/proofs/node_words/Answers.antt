@@ -4,4 +4,4 @@ use Rattle.settings.proofs.node_words.Goals as goal
 
 pub returns : goal.returns
 returns c =
-    node_made c.args.octets.now c.args.count c.num32-a.ensures c.num32-b.ensures c.num32-c.ensures c.num32-d.ensures c.num16-bias.ensures
+    node_made c.args.octets.now c.args.count c.num-a.ensures c.num-b.ensures c.num-c.ensures c.num-d.ensures c.num-bias.ensures

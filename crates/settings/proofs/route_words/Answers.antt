@@ -4,4 +4,4 @@ use Rattle.settings.proofs.route_words.Goals as goal
 
 pub returns : goal.returns
 returns c =
-    route_made c.args.octets.now c.args.k c.filter_words-f.ensures c.packed-configured.ensures c.num32-limit.ensures c.num32-age.ensures c.num32-most.ensures c.num32-next.ensures c.packed-flag.ensures
+    route_made c.args.octets.now c.args.k c.filter_words-f.ensures c.packed-configured.ensures c.num-limit.ensures c.num-age.ensures c.num-most.ensures c.num-next.ensures c.packed-flag.ensures

@@ -1,58 +1,27 @@
-use Rattle.std.proofs.Common.{ℕ, ◌<◌, ◌≤◌, ltb, refl, ap, ◌∙◌, arith, rules}
-use Rattle.refusals.specs.Below.{any_turn, any_end}
+-- `events::sets::is_met` meets its contract: the minutes in turn are the definition's, from the first on. Assumes nothing.
+use Rattle.std.proofs.Common.{rules, tests, ◌≡◌, Bool, ◌||◌, ℕ, zero, suc, ◌+◌, refl, ap, ◌∙◌, sym, arith, add-one}
+use Rattle.std.proofs.Math.Bool.{or-false, or_assoc}
+use Rattle.std.proofs.lemmas.Iterator.{YieldsList-from_range}
+use Rattle.std.proofs.lemmas.Iterator.Search.{any_from_yields_List}
+use Rattle.std.specs.List.{list_any, range_with_len}
+use Rattle.refusals.specs.Below.{any_below}
 use Rattle.state.specs.SetTimes.{set_count}
 use Rattle.words.specs.Words.{manager_in}
-use Rattle.events.specs.Met.{fallen, falls_at}
+use Rattle.events.specs.Met.{falls_at}
 use Rattle.events.proofs.sets.is_met.Goals as goal
-use Rattle.events.proofs.sets.is_met.Goals.{After-set_minute-minute, In-loop-j}
 
-counts : (c : goal.In-loop-j) → c.loop-j.j < set_count (manager_in c.args.words.now).set_times c.args.i
-counts c = omega (arith, c.loop-j-test.true, c.loop-j.invariant.1)
-
-few : (c : goal.In-loop-j) → c.loop-j.j < 24
-few c = omega (arith, counts c, c.requires.sets.few)
-
-counted : (c : goal.After-set_minute-minute) → c.loop-j.j < set_count (manager_in c.args.words.now).set_times c.args.i
-counted c = omega (arith, c.loop-j-test.true, c.loop-j.invariant.1)
-
-day : (c : goal.After-set_minute-minute) → c.set_minute-minute.result ≤ 1439
-day c = omega (arith, c.set_minute-minute.ensures, c.requires.sets.day c.loop-j.j (counted c))
-
-pub set_count-n-requires : goal.set_count-n-requires
-set_count-n-requires c = (c.requires.number, c.requires.route)
-
-pub loop-j-init : goal.loop-j-init
-loop-j-init c = (search rules, c.set_count-n.ensures, refl)
-
-pub set_minute-minute-requires : goal.set_minute-minute-requires
-set_minute-minute-requires c = (c.requires.number, c.requires.route, few c)
-
-pub fallen-before-requires : goal.fallen-before-requires
-fallen-before-requires c = let p = c.requires in (p.offset, day c, p.before)
-
-pub fallen-by-requires : goal.fallen-by-requires
-fallen-by-requires c = let p = c.requires in (p.offset, day (goal.at.fallen-by-requires c).After-set_minute-minute, p.now)
-
-pub overflow_add-j : goal.overflow_add-j
-overflow_add-j c = omega (arith, few (goal.at.overflow_add-j c).In-loop-j)
-
-pub loop-j-smaller : goal.loop-j-smaller
-loop-j-smaller c = omega (arith, c.loop-j-test.true)
-
-pub loop-j-preserved : goal.loop-j-preserved
-loop-j-preserved c =
-    let a = c.args in
-    let l = c.loop-j in
-    let minute = c.set_minute-minute.ensures in
-    let before = c.fallen-before.ensures ∙ ap (λ (m : ℕ). fallen a.bias m a.opened) minute in
-    let by = c.fallen-by.ensures ∙ ap (λ (m : ℕ). fallen a.bias m a.time) minute in (
-      omega (arith, c.loop-j-test.true),
-      l.invariant.1,
-      any_turn (falls_at (manager_in a.words.now).set_times a.i a.bias a.opened a.time) l.j l.invariant.2 (λ i. ltb (before i) (by i)),
-    )
+-- what holds of one before k, or of one of the n from k on
+any_from : (f : ℕ → Bool) (k n m : ℕ) → k + n ≡ m → (any_below f k || list_any f (range_with_len k n)) ≡ any_below f m
+any_from f k zero m e = let p : k ≡ m = omega (arith, e) in or-false (any_below f k) ∙ ap (any_below f) p
+any_from f k (suc n) m e =
+    sym (or_assoc (any_below f k) (f k) (list_any f (range_with_len (k + 1) n)))
+    ∙ ap (λ (i : ℕ). any_below f i || list_any f (range_with_len (k + 1) n)) (sym (add-one k))
+    ∙ any_from f (k + 1) n m (omega (arith, e))
 
 pub returns : goal.returns
 returns c =
-    let l = c.loop-j in
     let a = c.args in
-    any_end (falls_at (manager_in a.words.now).set_times a.i a.bias a.opened a.time) l.j (set_count (manager_in a.words.now).set_times a.i) l.invariant.2 (omega (arith, l.invariant.0, l.invariant.1))
+    let n = c.set_count.result in
+    let f = falls_at (manager_in a.words.now).set_times a.i a.bias a.opened a.time in
+    any_from_yields_List f _ _ _ c.any.ensures.ran (YieldsList-from_range 0 n n refl (omega arith)) (λ x b q k. search (rules, tests))
+    ∙ any_from f 0 n (set_count (manager_in a.words.now).set_times a.i) (omega (arith, c.set_count.ensures))

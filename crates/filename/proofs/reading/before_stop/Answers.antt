@@ -1,31 +1,14 @@
-use borrow.Author.Rules.{rules}
-use mathlib.Core.Path.{◌≡◌, refl, sym, ap, ◌∙◌}
-use mathlib.Core.Bool.{not, cond, ◌&&◌}
-use Prim.Native.Nat.{suc}
-use native.Mathlib.Omega.{arith}
-use native.Mathlib.Numerals.{add-one}
-use lib.Dec.{eqb}
-use Rattle.filename.specs.Reading.{before}
-use Rattle.filename.specs.Places.{before_most}
+-- `filename::reading::before_stop` meets its contract: the first stop, or all n octets without one. Assumes nothing.
+use Rattle.std.proofs.Common.{sym, ◌∙◌, arith}
+use Rattle.filename.specs.Places.{before_all, before_is}
 use Rattle.filename.proofs.reading.before_stop.Goals as goal
 
-pub loop-i-init : goal.loop-i-init
-loop-i-init c = (search rules, refl)
-
-pub loop-i-preserved : goal.loop-i-preserved
-loop-i-preserved c =
+pub returns-then-octet_at-stop : goal.returns-then-octet_at-stop
+returns-then-octet_at-stop c =
     let a = c.args in
-    let l = c.loop-i in (
-      search rules,
-      c.one_more-count.ensures
-          ∙ (λ j. cond (eqb (l.invariant.1 j) l.i && not (eqb (c.octet_at-next.ensures j) a.stop)) (suc l.i) (l.invariant.1 j))
-          ∙ ap (before a.stop a.name.now a.k) (sym (add-one l.i)),
-    )
+    (sym (before_is a.stop a.name.now a.k c.loop-i.i a.n (omega arith) c.loop-i.invariant (sym c.octet_at.ensures ∙ c.if-octet_at-stop.true)), omega arith)
 
 pub returns : goal.returns
 returns c =
     let a = c.args in
-    let l = c.loop-i in
-    let e : l.i ≡ a.n = omega arith in
-    let r : l.count ≡ before a.stop a.name.now a.k a.n = l.invariant.1 ∙ ap (before a.stop a.name.now a.k) e in
-    (r, omega (arith, r, before_most a.stop a.name.now a.k a.n))
+    (sym (before_all a.stop a.name.now a.k a.n (λ j l. c.loop-i.invariant j (omega (arith, l)))), omega arith)

@@ -8,14 +8,6 @@ use Rattle.octets.specs.Splice.{splice, splice_then, splice_nil}
 use Rattle.filename.specs.Cases.{private_there, private_none}
 use Rattle.filename.proofs.spelling.put_private.Goals as goal
 
-pub copy-requires : goal.copy-requires
-copy-requires c =
-    omega (arith, c.requires, ap length (private_there c.args.has c.args.private.now c.if-has-eq1.true))
-
-pub copy-requires-then-has-eq1 : goal.copy-requires-then-has-eq1
-copy-requires-then-has-eq1 c =
-    omega (arith, c.requires, ap length (private_there c.args.has c.args.private.now c.if-has-eq1.true))
-
 pub returns-then-has-eq1 : goal.returns-then-has-eq1
 returns-then-has-eq1 c =
     let a = c.args in

@@ -1,36 +1,10 @@
 -- `filename::spelling::spell` meets its contract: each part stands behind the one before it. Assumes nothing.
 use mathlib.Core.Path.{ap, ◌∙◌}
 use Prim.Native.Nat.{◌+◌}
-use native.Mathlib.Omega.{arith}
 use lib.ListN.{length}
 use Rattle.octets.specs.Splice.{splice}
-use Rattle.filename.specs.Cases.{spelled_length, spelled_made}
+use Rattle.filename.specs.Cases.{spelled_made}
 use Rattle.filename.proofs.spelling.spell.Goals as goal
-
-pub copy-requires : goal.copy-requires
-copy-requires c =
-    let a = c.args in
-    omega (arith, c.requires, spelled_length a.f a.node.now a.private.now, c.width_of-digits.ensures.0)
-
-pub copy-requires-2 : goal.copy-requires-2
-copy-requires-2 c =
-    let a = c.args in
-    omega (arith, c.requires, spelled_length a.f a.node.now a.private.now, c.width_of-digits.ensures.0)
-
-pub put_decimal-requires : goal.put_decimal-requires
-put_decimal-requires c =
-    let a = c.args in
-    omega (arith, c.requires, spelled_length a.f a.node.now a.private.now, c.width_of-digits.ensures.0)
-
-pub copy-requires-3 : goal.copy-requires-3
-copy-requires-3 c =
-    let a = c.args in
-    omega (arith, c.requires, spelled_length a.f a.node.now a.private.now, c.width_of-digits.ensures.0, ap length c.closing_of-closing.ensures)
-
-pub put_private-requires : goal.put_private-requires
-put_private-requires c =
-    let a = c.args in
-    omega (arith, c.requires, spelled_length a.f a.node.now a.private.now, c.width_of-digits.ensures.0)
 
 pub returns : goal.returns
 returns c =

@@ -1,25 +1,18 @@
+-- `judging::bounds::routes_right` meets its contract: the words of route i are those of the definition's. Assumes nothing.
 use borrow.Author.Rules.{rules}
-use mathlib.Core.Path.{refl, ◌∙◌}
+use mathlib.Core.Path.{◌≡◌, ap, ◌∙◌}
+use Prim.Native.Nat.{◌+◌, ◌*◌}
 use native.Mathlib.Omega.{arith}
-use Rattle.refusals.specs.Below.{below_turn, below_end}
-use Rattle.words.specs.Words.{manager_in}
-use Rattle.words.specs.Laws.{part_route}
+use lib.ListN.{get_or, take, drop}
+use Rattle.words.specs.Words.{manager_in, route_in}
+use Rattle.words.specs.Laws.{route_there}
 use Rattle.state.specs.Bounds.{route_right, right_at}
 use Rattle.judging.proofs.bounds.routes_right.Goals as goal
 
-pub loop-i-init : goal.loop-i-init
-unfolding manager_in
-loop-i-init c = (search rules, refl, refl)
-
-pub loop-i-preserved : goal.loop-i-preserved
-loop-i-preserved c =
-    let l = c.loop-i in
-    let xs = c.args.words.now in
-    let right = c.route_right-right.ensures ∙ (λ i. route_right (l.invariant.1 i) (part_route xs l.i (omega arith) i)) in
-    (search rules, search rules, below_turn (right_at (manager_in xs)) l.i l.invariant.2 right)
-
 pub returns : goal.returns
+unfolding manager_in
 returns c =
-    let l = c.loop-i in
-    let a = c.args in
-    below_end (right_at (manager_in a.words.now)) l.i a.n l.invariant.2 (omega arith)
+    let xs = c.args.words.now in
+    c.all_below.ensures (right_at (manager_in xs)) (λ i b l e.
+    let is : b ≡ route_right (get_or xs 6 0) (route_in (take 19 (drop (8 + 19 * i) xs))) = search rules in
+    is ∙ ap (route_right (get_or xs 6 0)) (route_there xs i (omega arith)))

@@ -1,28 +1,20 @@
-use mathlib.Core.Path.{refl, ap, ◌∙◌}
+-- `judging::filters::is_new` meets its contract: the words of route j are those of the definition's. Assumes nothing.
 use borrow.Author.Rules.{rules}
+use mathlib.Core.Path.{◌≡◌, ◌∙◌}
 use mathlib.Core.Bool.{not}
+use Prim.Native.Nat.{◌+◌, ◌*◌}
 use native.Mathlib.Omega.{arith}
-use Rattle.refusals.specs.Below.{below_turn, below_end}
+use lib.ListN.{take, drop}
 use Rattle.state.specs.Manager.{settings_at}
 use Rattle.state.specs.Bounds.{same_filter, other_at}
-use Rattle.words.specs.Words.{manager_in}
-use Rattle.words.specs.Laws.{part_settings}
+use Rattle.words.specs.Words.{manager_in, settings_in}
+use Rattle.words.specs.Laws.{settings_there}
 use Rattle.judging.proofs.filters.is_new.Goals as goal
-
-pub loop-j-init : goal.loop-j-init
-loop-j-init c = (search rules, refl)
-
-pub loop-j-preserved : goal.loop-j-preserved
-loop-j-preserved c =
-    let l = c.loop-j in
-    let a = c.args in
-    let xs = a.words.now in
-    let same = c.same_filter-same.ensures ∙ (λ i. same_filter (part_settings xs l.j (omega arith) i) (part_settings xs a.i (search rules) i)) in
-    (search rules, below_turn (other_at (manager_in xs) (settings_at (manager_in xs) a.i)) l.j l.invariant.1 (ap not same))
 
 pub returns : goal.returns
 returns c =
-    let l = c.loop-j in
-    let a = c.args in
-    let m = manager_in a.words.now in
-    below_end (other_at m (settings_at m a.i)) l.j a.n l.invariant.1 (omega arith)
+    let xs = c.args.words.now in
+    let n = c.args.i in
+    c.all_below.ensures (other_at (manager_in xs) (settings_at (manager_in xs) n)) (λ j b l e.
+    let is : b ≡ not (same_filter (settings_in (take 19 (drop (8 + 19 * j) xs))) (settings_in (take 19 (drop (8 + 19 * n) xs)))) = search rules in
+    is ∙ (λ k. not (same_filter (settings_there xs j (omega arith) k) (settings_there xs n (omega arith) k))))

@@ -17,7 +17,7 @@ returns c =
     let narrow = c.is_narrow_release-narrow.ensures ∙ ap narrow_release c.release_in-release.ensures in
     λ i.
     leb (octets i) 20
-    && (c.unused_zero-unused.ensures ∙ ap (λ (n : ℕ). zero_from (settings_in xs).filter n 20) octets) i
+    && (c.unused_zero-unused.ensures ∙ ap (λ (n : ℕ). zero_from (settings_in xs).filter n 20) (c.from.ensures ∙ octets)) i
     && leb 128 (get_or xs 6 0)
     && leb (get_or xs 6 0) 1048576
     && leb (c.top_of-flag.ensures i) 1

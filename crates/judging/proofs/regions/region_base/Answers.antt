@@ -8,16 +8,16 @@ use Rattle.state.specs.Manager.{base}
 use Rattle.judging.proofs.regions.region_base.Goals as goal
 
 pub loop-i-init : goal.loop-i-init
-loop-i-init c = (search rules, refl, search rules)
+loop-i-init c = (refl, search rules)
 
 pub loop-i-preserved : goal.loop-i-preserved
 loop-i-preserved c =
     let l = c.loop-i in
-    (search rules, rw add-one ((λ j. l.invariant.1 j + (c.settings_at-s.ensures j).limit)), omega arith)
+    (rw add-one ((λ j. l.invariant.0 j + (c.settings_at.ensures j).limit)), omega arith)
 
 pub returns : goal.returns
 returns c =
     let l = c.loop-i in
     let a = c.args in
     let e : l.i ≡ a.n = omega arith in
-    l.invariant.1 ∙ ap (base (manager_in a.words.now)) e
+    l.invariant.0 ∙ ap (base (manager_in a.words.now)) e

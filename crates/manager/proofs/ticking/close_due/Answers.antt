@@ -9,24 +9,24 @@ use Rattle.state.specs.declared.Node.{Node}
 use Rattle.state.specs.Manager.{Manager}
 use Rattle.state.specs.Manager.{route_at, base, node_of}
 use Rattle.state.specs.Regions.{region_within}
-use Rattle.words.specs.Words.{manager_in, words_of}
+use Rattle.words.specs.Words.{manager_in}
 use Rattle.words.specs.Laws.{twenty}
 use Rattle.filing.specs.Closing.{lost_octet, closed_file, closed_size}
 use Rattle.filing.specs.Closed.{closed_length}
 use Rattle.filing.specs.Needs.{Closable}
 use Rattle.events.specs.Met.{met}
 use Rattle.events.specs.Rules.{closed_route, due, ending}
-use Rattle.events.specs.Events.{met_at, ends, end_reason, up_to}
+use Rattle.events.specs.Events.{met_at, ends, end_reason}
 use Rattle.events.specs.Cases.{closable_as, closed_as}
 use Rattle.manager.specs.Tick.{begins, same_route, same_sets, meets, ready, turn_not, turn_due}
 use Rattle.manager.proofs.ticking.close_due.Goals as goal
-use Rattle.manager.proofs.ticking.close_due.Goals.{After-is_ending, After-route_at-r, then-is_ending, else-is_ending}
+use Rattle.manager.proofs.ticking.close_due.Goals.{After-is_met-met, After-route_at-r, In-Some, in-Some, in_default}
 
 abbrev state : List ℕ → Manager
 state words = manager_in words
 
 few : (c : goal.After-route_at-r) → c.args.n ≤ 8
-few c = omega (arith, c.requires.1.few, c.requires.1.state.few)
+few c = omega (arith, c.requires.few, c.requires.state.few)
 
 below : (c : goal.After-route_at-r) → c.loop-i.i < 8
 below c = omega (arith, few c, c.loop-i-test.true)
@@ -34,18 +34,21 @@ below c = omega (arith, few c, c.loop-i-test.true)
 route_is : (c : goal.After-route_at-r) → c.route_at-r.result ≡ route_at (state c.args.words.now) c.loop-i.i
 route_is c = c.route_at-r.ensures.0 ∙ same_route _ _ _ _ _ c.loop-i.invariant.1 c.loop-i-test.true (few c)
 
--- whether its file ends
-told : (c : goal.After-is_ending)
-    → c.is_ending.result ≡ ends (state c.args.words.now) c.args.t c.loop-i.i
-told c =
+-- what is looked at to tell whether its file ends is the state's
+looked : (c : goal.After-is_met-met) → ending c.args.t c.route_at-r.result c.is_met-met.result ≡ ends (state c.args.words.now) c.args.t c.loop-i.i
+looked c =
     let l = c.loop-i in
     let m = state c.args.words.now in
     let t = c.args.t in
-    let low : c.args.n ≤ 8 = omega (arith, c.requires.1.few, c.requires.1.state.few) in
+    let low : c.args.n ≤ 8 = omega (arith, c.requires.few, c.requires.state.few) in
     let read : c.route_at-r.result ≡ route_at m l.i = c.route_at-r.ensures.0 ∙ same_route _ _ _ _ _ l.invariant.1 c.loop-i-test.true low in
     let sets = same_sets _ _ _ _ _ l.invariant.1 c.loop-i-test.true low in
     let fell : c.is_met-met.result ≡ met_at m t l.i = c.is_met-met.ensures ∙ (λ k. met (sets k) l.i (l.invariant.0 k).bias (read k).file.opened t) in
-    c.is_ending.ensures ∙ (λ k. ending t (read k) (fell k))
+    λ k. ending t (read k) (fell k)
+
+-- it ends
+told : (c : goal.In-Some) → ending c.args.t c.route_at-r.result c.is_met-met.result ≡ ends (state c.args.words.now) c.args.t c.loop-i.i → ends (state c.args.words.now) c.args.t c.loop-i.i ≡ true
+told c same = sym (c.in-Some.ensures.ends ∙ same)
 
 -- a file that ends can be closed behind those before it
 closable : (c : goal.After-route_at-r)
@@ -53,35 +56,35 @@ closable : (c : goal.After-route_at-r)
     let r = route_at (state c.args.words.now) l.i in
     ends (state c.args.words.now) c.args.t l.i ≡ true
     → Closable (node_of (state c.args.words.now)) r (lost_octet r) c.args.store.now (base (state c.args.words.now) l.i) l.output l.at
-closable c e = ready _ _ _ _ _ c.loop-i.invariant.1 c.loop-i-test.true e c.requires.1
+closable c e = ready _ _ _ _ _ c.loop-i.invariant.1 c.loop-i-test.true e c.requires
 
 pub loop-i-init : goal.loop-i-init
-loop-i-init c = (c.node_of-node.ensures, begins _ _ _ _ _ c.requires.0)
+loop-i-init c = (c.node_of-node.ensures, begins _ _ _ _ _ c.told-words)
 
 pub route_at-r-requires : goal.route_at-r-requires
-route_at-r-requires c = (c.loop-i.invariant.1.number, omega (arith, c.requires.1.few, c.requires.1.state.few, c.loop-i-test.true))
+route_at-r-requires c = omega (arith, c.requires.few, c.requires.state.few, c.loop-i-test.true)
 
 pub is_met-met-requires : goal.is_met-met-requires
 is_met-met-requires c =
     let l = c.loop-i in
-    meets _ _ _ _ _ l.invariant.1 c.loop-i-test.true c.requires.1 c.route_at-r.ensures.1 (ap (λ (n : Node). n.bias) l.invariant.0)
+    meets _ _ _ _ _ l.invariant.1 c.loop-i-test.true c.requires c.route_at-r.ensures.1 (ap (λ (n : Node). n.bias) l.invariant.0)
 
 pub close_file-requires : goal.close_file-requires
 close_file-requires c =
     let l = c.loop-i in
-    closable_as (state c.args.words.now) l.i l.invariant.0 (route_is (goal.at.close_file-requires c).After-route_at-r) l.invariant.1.from (closable (goal.at.close_file-requires c).After-route_at-r (sym (told (goal.at.close_file-requires c).After-is_ending) ∙ c.if-is_ending.true))
+    closable_as (state c.args.words.now) l.i l.invariant.0 (route_is (goal.at.close_file-requires c).After-route_at-r) l.invariant.1.from (closable (goal.at.close_file-requires c).After-route_at-r (told (goal.at.close_file-requires c).In-Some (looked (goal.at.close_file-requires c).After-is_met-met)))
 
 pub put_route-requires : goal.put_route-requires
 put_route-requires c =
     let l = c.loop-i in
     let file = c.closed_route-closed.ensures in
-    (l.invariant.1.number, below (goal.at.put_route-requires c).After-route_at-r, omega (arith, ap (λ (r : Route). r.file.opened) file))
+    (below (goal.at.put_route-requires c).After-route_at-r, omega (arith, ap (λ (r : Route). r.file.opened) file))
 
 pub overflow_add-at : goal.overflow_add-at
 overflow_add-at c =
     let l = c.loop-i in
-    let n = c.closed_size-size.ensures ∙ ap closed_size (route_is (goal.at.overflow_add-at c).After-route_at-r) in
-    omega (arith, (closable (goal.at.overflow_add-at c).After-route_at-r (sym (told (goal.at.overflow_add-at c).After-is_ending) ∙ c.if-is_ending.true)).room, l.invariant.1.long, n, c.ranges)
+    let n = c.closed_size-at.ensures ∙ ap closed_size (route_is (goal.at.overflow_add-at c).After-route_at-r) in
+    omega (arith, (closable (goal.at.overflow_add-at c).After-route_at-r (told (goal.at.overflow_add-at c).In-Some (looked (goal.at.overflow_add-at c).After-is_met-met))).room, l.invariant.1.long, n, c.ranges)
 
 pub overflow_add-files : goal.overflow_add-files
 overflow_add-files c =
@@ -91,12 +94,9 @@ pub overflow_add-from : goal.overflow_add-from
 overflow_add-from c =
     let l = c.loop-i in
     let m = state c.args.words.now in
-    let p = c.requires.1 in
+    let p = c.requires in
     let limit = ap (λ (r : Route). r.settings.limit) (route_is (goal.at.overflow_add-from c).After-route_at-r) in
     omega (arith, l.invariant.1.from, limit, region_within m l.i m.count (omega (arith, p.few, c.loop-i-test.true)), p.regions, c.ranges)
-
-pub overflow_add-i : goal.overflow_add-i
-overflow_add-i c = omega (arith, below (goal.at.overflow_add-i c).After-route_at-r)
 
 pub loop-i-preserved : goal.loop-i-preserved
 loop-i-preserved c =
@@ -104,35 +104,24 @@ loop-i-preserved c =
     let a = c.args in
     let v = l.invariant.1 in
     let more = c.loop-i-test.true in
-    let limit = ap (λ (r : Route). r.settings.limit) (route_is (goal.at.loop-i-preserved c).After-route_at-r) in
-    elim c.if-is_ending.branch [
-      | then-is_ending w ↦
-          let ends_now = sym (told (goal.at.loop-i-preserved c).After-is_ending) ∙ w.if-is_ending.true in
+    let read = route_is (goal.at.loop-i-preserved c).After-route_at-r in
+    let same = looked (goal.at.loop-i-preserved c).After-is_met-met in
+    let limit = ap (λ (r : Route). r.settings.limit) read in
+    elim c.match-ending.branch [
+      | in-Some w ↦
+          let ends_now = sym (w.in-Some.ensures.ends ∙ same) in
           let able = closable (goal.at.loop-i-preserved c).After-route_at-r ends_now in
-          let reason : w.end_reason-reason.result ≡ end_reason (state a.words.now) a.t l.i = w.end_reason-reason.ensures ∙ ap (λ (r : Route). cond (due a.t r) 2 0) (route_is (goal.at.loop-i-preserved c).After-route_at-r) in
+          let reason : w.number.result ≡ end_reason (state a.words.now) a.t l.i = w.number.ensures ∙ w.in-Some.ensures.reason ∙ ap (λ (r : Route). cond (due a.t r) 2 0) read in
           rw (w.words-is, w.output-is, w.at-is, w.files-is) (
             l.invariant.0,
-            turn_due _ _ _ _ _ v more ends_now (few (goal.at.loop-i-preserved c).After-route_at-r) limit (ap (λ (n : ℕ). l.at + n) (w.closed_size-size.ensures ∙ ap closed_size (route_is (goal.at.loop-i-preserved c).After-route_at-r)))
+            turn_due _ _ _ _ _ v more ends_now (few (goal.at.loop-i-preserved c).After-route_at-r) limit (ap (λ (n : ℕ). l.at + n) (w.closed_size-at.ensures ∙ ap closed_size read))
                 (w.close_file.ensures
                 ∙ ap (splice l.output l.at)
-                (closed_as (state a.words.now) a.store.now l.i w.end_reason-reason.result l.invariant.0 (route_is (goal.at.loop-i-preserved c).After-route_at-r) v.from ∙ ap (closed_file (state a.words.now) a.store.now l.i) reason))
+                (closed_as (state a.words.now) a.store.now l.i w.number.result l.invariant.0 read v.from ∙ ap (closed_file (state a.words.now) a.store.now l.i) reason))
                 (closed_length (state a.words.now) a.store.now l.i (end_reason (state a.words.now) a.t l.i) able.records able.filter (twenty a.words.now l.i (below (goal.at.loop-i-preserved c).After-route_at-r)))
                 w.close_file.auto.output
-                (w.closed_route-closed.ensures ∙ ap closed_route (route_is (goal.at.loop-i-preserved c).After-route_at-r)) w.put_route.ensures,
+                (w.closed_route-closed.ensures ∙ ap closed_route read) w.put_route.ensures,
           )
-      | else-is_ending w ↦
-          rw (w.words-is, w.output-is, w.at-is, w.files-is) (l.invariant.0, turn_not _ _ _ _ _ v more limit (sym (told (goal.at.loop-i-preserved c).After-is_ending) ∙ w.if-is_ending.false))
+      | in_default w ↦
+          rw (w.words-is, w.output-is, w.at-is, w.files-is) (l.invariant.0, turn_not _ _ _ _ _ v more limit (sym (w.in_default.ensures.ends ∙ same)))
     ]
-
-pub returns : goal.returns
-returns c =
-    let l = c.loop-i in
-    let a = c.args in
-    let m = manager_in a.words.now in
-    let v = l.invariant.1 in
-    let e : l.i ≡ a.n = omega (arith, v.below) in
-    record {
-      words = v.words ∙ ap (λ (k : ℕ). words_of (up_to m a.store.now a.t k).manager) e;
-      count = v.count ∙ ap (λ (k : ℕ). (up_to m a.store.now a.t k).files) e;
-      written = v.written ∙ ap (λ (k : ℕ). splice a.output.now 0 (up_to m a.store.now a.t k).octets) e;
-    }

@@ -1,10 +1,9 @@
 -- `receiving::pass::unrouted` meets its contract: its two ways out are the definition's. Assumes nothing.
-use mathlib.Core.Path.{◌≡◌, sym, ap, ◌∙◌}
+use mathlib.Core.Path.{◌≡◌, refl, sym, ap, ◌∙◌}
 use mathlib.Core.Bool.{false, not, ◌||◌}
 use native.Mathlib.Omega.{arith}
 use lib.Dec.{eqb}
-use lib.ListN.{get_or, length-set}
-use borrow.Author.Rules.{rules}
+use lib.ListN.{get_or}
 use borrow.Author.Tests.{eqb-false, not-false}
 use Rattle.refusals.specs.Refusal.{or_false}
 use Rattle.refusals.specs.Below.{all_below}
@@ -12,7 +11,7 @@ use Rattle.words.specs.Words.{manager_in}
 use Rattle.events.specs.Receive.{can_note, unrouted_full}
 use Rattle.receiving.specs.Told.{unrouted_refused, unrouted_done}
 use Rattle.receiving.proofs.pass.unrouted.Goals as goal
-use Rattle.receiving.proofs.pass.unrouted.Goals.{After-can_note-room, Else-unrouted-room}
+use Rattle.receiving.proofs.pass.unrouted.Goals.{After-can_note-room, Else-words-room}
 
 -- what is tested is 19's condition
 full_is : (e : goal.After-can_note-room)
@@ -24,27 +23,24 @@ full_is e =
     λ i. eqb (get_or xs 7 0) 4294967295 || not (room i)
 
 -- and where it is not met
-rises : (c : goal.Else-unrouted-room) → (eqb (get_or c.args.words.now 7 0) 4294967295 || not c.can_note-room.result) ≡ false
-rises c = c.if-unrouted-room.false
+rises : (c : goal.Else-words-room) → (eqb (get_or c.args.words.now 7 0) 4294967295 || not c.can_note-room.result) ≡ false
+rises c = c.if-words-room.false
 
-pub returns-then-unrouted-room : goal.returns-then-unrouted-room
-returns-then-unrouted-room c =
-    unrouted_refused c.args.words.now c.requires.0 c.args.t c.args.compared (sym (full_is (goal.at.returns-then-unrouted-room c).After-can_note-room) ∙ c.if-unrouted-room.true) c.refuse.ensures
+pub returns-then-words-room : goal.returns-then-words-room
+returns-then-words-room c =
+    unrouted_refused c.args.words.now c.told-words c.args.t c.args.compared (sym (full_is (goal.at.returns-then-words-room c).After-can_note-room) ∙ c.if-words-room.true) refl
 
 pub overflow_add-more : goal.overflow_add-more
 overflow_add-more c =
-    let least = eqb-false (get_or c.args.words.now 7 0) 4294967295 (or_false (eqb (get_or c.args.words.now 7 0) 4294967295) (not c.can_note-room.result) (rises c)).0 in
+    let least = eqb-false (get_or c.args.words.now 7 0) 4294967295 (or_false (eqb (get_or c.args.words.now 7 0) 4294967295) (not c.can_note-room.result) (rises (goal.at.overflow_add-more c).Else-words-room)).0 in
     omega (arith, least)
 
 pub note_routes-requires : goal.note_routes-requires
 note_routes-requires c =
-    let room = (or_false (eqb (get_or c.args.words.now 7 0) 4294967295) (not c.can_note-room.result) (rises (goal.at.note_routes-requires c).Else-unrouted-room)).1 in
-    (c.requires.0, omega (arith, c.count_of-n.ensures, c.requires.1), sym c.can_note-room.ensures ∙ not-false _ room)
-
-pub bounds-words-7-2 : goal.bounds-words-7-2
-bounds-words-7-2 c = simp length-set (search rules)
+    let room = (or_false (eqb (get_or c.args.words.now 7 0) 4294967295) (not c.can_note-room.result) (rises (goal.at.note_routes-requires c).Else-words-room)).1 in
+    (omega (arith, c.count_of-n.ensures, c.requires), sym c.can_note-room.ensures ∙ not-false _ room)
 
 pub returns : goal.returns
 unfolding manager_in
 returns c =
-    unrouted_done c.args.words.now c.requires.0 c.args.t c.args.compared (sym (full_is (goal.at.returns c).After-can_note-room) ∙ rises (goal.at.returns c).Else-unrouted-room) c.count_of-n.ensures c.accept.ensures c.note_routes.ensures
+    unrouted_done c.args.words.now c.told-words c.args.t c.args.compared (sym (full_is (goal.at.returns c).After-can_note-room) ∙ rises (goal.at.returns c).Else-words-room) c.count_of-n.ensures c.accept.ensures c.note_routes.ensures

@@ -7,4 +7,4 @@ returns-then-j-eq0 c = let a = c.args in follows_first a.octets.now a.j c.if-j-e
 
 pub returns : goal.returns
 returns c =
-    follows_made c.args.octets.now c.args.j c.requires.0 c.if-j-eq0.false c.num16-before.ensures c.num16-minute.ensures
+    follows_made c.args.octets.now c.args.j c.requires.0 c.if-j-eq0.false c.num-before.ensures c.num-minute.ensures

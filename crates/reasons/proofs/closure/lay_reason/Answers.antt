@@ -1,9 +1,0 @@
--- `reasons::closure::lay_reason` meets its contract: the words stand behind the number. Assumes nothing.
-use native.Mathlib.Omega.{arith}
-use Rattle.wording.specs.Laid.{laid_then}
-use Rattle.reasons.specs.Closure.{reason_words}
-use Rattle.reasons.proofs.closure.lay_reason.Goals as goal
-
-pub returns : goal.returns
-unfolding reason_words
-returns c = laid_then (omega (arith, c.requires)) c.lay_start-a.ensures.0 c.lay_words.ensures
