@@ -363,7 +363,7 @@ pub fn name_write(fields: &name::Fields, output: &mut [u8]) -> Written {
     }
 }
 
-/// What two files have in common. The call has 2 MiB of arrays on the stack: a thread that makes it
+/// What two files have in common. The call has 3 MiB of arrays on the stack: a thread that makes it
 /// needs more than Rust gives one.
 pub fn reconcile(first: &[u8], second: &[u8]) -> Reconciled {
     // SAFETY: as in `read`.

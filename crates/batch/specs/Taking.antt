@@ -95,7 +95,7 @@ pub record Taking (xs : List ℕ) (n : ℕ) (words₀ store₀ output₀ words s
   pub many : length tried ≡ i
   pub says : r ≡ answers_of 0 0 tried
   pub number : length words ≡ 360
-  pub held : Held (manager_in words)
+  pub bits : Words32 words
   pub right : first (judged (manager_in words) (length store) []) ≡ 0
   pub long : length store ≡ length store₀
   pub wide : length output ≡ length output₀
@@ -115,7 +115,7 @@ taking_begins xs words store output e number bits right all many =
       many = refl;
       says = e;
       number = number;
-      held = held_in words number bits;
+      bits = bits;
       right = right;
       long = refl;
       wide = refl;
@@ -256,7 +256,7 @@ module _ {xs : List ℕ} {n : ℕ} {words₀ store₀ output₀ words store outp
       k = x.answer.octets
 
       pub fit : k ≤ length (drop used output)
-      fit = left_room words store (drop used output) (first_of ys) v.number v.held low v.right z
+      fit = left_room words store (drop used output) (first_of ys) v.number (held_in words v.number v.bits) low v.right z
 
       -- the output, with what the record filled
       module _ (same : length x.output ≡ length (drop used output)) where
@@ -276,12 +276,13 @@ module _ {xs : List ℕ} {n : ℕ} {words₀ store₀ output₀ words store outp
             let e : used + k ≡ length (take used output) + k = ap (λ (q : ℕ). q + k) (sym (length-take-le used output v.room)) in
             ap (λ (q : ℕ). drop q out) e ∙ drop-append-add (take used output) x.output k
 
-        pub taking_next : {r' : Answers} → r' ≡ record { refusal = r.refusal; accepted = r.accepted; answers = set r.answers i x.answer }
+        pub taking_next : {r' : Answers} → Words32 x.words → r' ≡ record { refusal = r.refusal; accepted = r.accepted; answers = set r.answers i x.answer }
             → Taking xs n words₀ store₀ output₀ x.words x.store out r' (at + size_of ys) (used + k) (i + 1)
-        taking_next e =
+        taking_next bits e =
             let steps : 63 - i ≡ 64 - (i + 1) = omega arith in
             let d = drop-drop (size_of ys) at xs in
             let tried = v.tried ++ (x.answer ∷ []) in
+            let held : Held (manager_in words) = held_in words v.number v.bits in
             record {
               tried = tried;
               many = omega (arith, length-append v.tried (x.answer ∷ []), v.many);
@@ -289,10 +290,10 @@ module _ {xs : List ℕ} {n : ℕ} {words₀ store₀ output₀ words store outp
                   e
                   ∙ ap (λ (q : Answers). record { refusal = q.refusal; accepted = q.accepted; answers = set q.answers i x.answer }) v.says
                   ∙ ap (λ (l : List Answer). record { refusal = 0; accepted = 0; answers = l }) (set_padded v.tried i x.answer v.many below);
-              held = left_holds words store (drop used output) (first_of ys) v.number v.held low v.right;
-              number = left_number words store (drop used output) (first_of ys) v.number v.held low v.right;
-              right = left_judged words store (drop used output) (first_of ys) v.number v.held low v.right;
-              long = left_long words store (drop used output) (first_of ys) v.number v.held low v.right ∙ v.long;
+              bits = bits;
+              number = left_number words store (drop used output) (first_of ys) v.number held low v.right;
+              right = left_judged words store (drop used output) (first_of ys) v.number held low v.right;
+              long = left_long words store (drop used output) (first_of ys) v.number held low v.right ∙ v.long;
               wide = out_length ∙ v.wide;
               few = omega (arith, below);
               inside = taking_fits;

@@ -6,6 +6,7 @@ ghost use Rattle.refusals.specs.Refusal.{first};
 ghost use Rattle.refusals.specs.Number.{number, needed};
 ghost use Rattle.state.specs.Common.{judged};
 ghost use Rattle.words.specs.Words.{manager_in};
+ghost use Rattle.words.specs.HeldIn.{Words32};
 ghost use Rattle.events.specs.Events.{refusal_of};
 ghost use Rattle.events.specs.Lent.{left};
 ghost use Rattle.packets.specs.Packet.{size_of, first_of, wrong_packet, delivered};
@@ -74,6 +75,11 @@ fn take_at(
     )
 }
 
+// That words are of 32 bits: of an array that a call in a loop has written, the check knows the length alone. Nothing is done for it when it runs.
+fn words_fit(words: &[u32])
+    ensures { Words32 words.now }
+{}
+
 // Takes the n records of a packet one behind another, each lent the output behind what those before it filled, up to the first that is refused.
 fn take_all(
     words: &mut Words,
@@ -90,6 +96,7 @@ fn take_all(
     let mut used = 0;
     for i in 0..n {
         let answer = take_at(words, store, &mut output[used..], packet, at);
+        words_fit(words);
         // Field by field and no copy of the whole, for speed: that would be waited for.
         let kept = Answer {
             refusal: answer.refusal,

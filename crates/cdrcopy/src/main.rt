@@ -5,6 +5,7 @@
 ghost use Rattle.writer.specs.Writer.{after};
 ghost use Rattle.cdrcopy.specs.Copy.{Rewrites};
 
+use std::io::Stdout;
 use textlines::{Page, zeros};
 use writer::Written;
 
@@ -30,27 +31,32 @@ fn rewrite(file: &[u8], output: &mut [u8]) -> Written
     writer::write(c.header, filter, private, records, output)
 }
 
-// A file written again, or the line of its refusal: those beyond the program's limit are refused with 8.
-fn copy(page: &mut Page<'_>, file: &[u8], output: &mut [u8]) {
+// The line of a refusal.
+fn print_refusal(stdout: Stdout, number: u8) {
+    let mut printed = [0u8; 64];
+    let mut page = Page::new(stdout, &mut printed);
+    page.put_line(b'E', [u64::from(number)]);
+    page.flush();
+}
+
+// A file written again, by one write and no page, or the line of its refusal: those beyond the program's limit are refused with 8.
+fn copy(stdout: Stdout, file: &[u8], output: &mut [u8]) {
     if LONGEST < file.len() {
-        println!(page; "E 8");
+        print_refusal(stdout, 8);
         return;
     }
     let w = rewrite(file, output);
     if w.refusal != 0 {
-        println!(page; "E {}", w.refusal);
+        print_refusal(stdout, w.refusal);
         return;
     }
-    page.put_all(&output[..w.octets]);
+    streams::write_all(stdout, &output[..w.octets]);
 }
 
 fn main(rt: HostRuntime) {
     // An octet more than the longest file, so that a longer one shows.
     let mut buffer = zeros::<65537>();
     let mut output = zeros::<65536>();
-    let mut printed = zeros::<65536>();
-    let mut page = Page::new(rt.stdout(), &mut printed);
     let n = streams::read_full(rt.stdin(), &mut buffer);
-    copy(&mut page, &buffer[..n], &mut output);
-    page.flush();
+    copy(rt.stdout(), &buffer[..n], &mut output);
 }

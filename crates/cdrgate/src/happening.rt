@@ -3,7 +3,7 @@ use batch::Answers;
 use events::Answer;
 use gateanswers::{print_answer, print_files, print_packet};
 use gatescript::{Event, command_of};
-use gatesteps::Run;
+use gatesteps::Desk;
 use textlines::{Page, Wrong};
 
 // The lines of an answer, whose files begin the output.
@@ -27,13 +27,13 @@ fn print_tried(page: &mut Page<'_>, tried: Answers, output: &[u8]) {
 }
 
 // Has the event answered by the manager, or the packet taken, and what came of it printed.
-fn happen(event: Event<'_>, run: &mut Run<'_>, page: &mut Page<'_>) {
+fn happen(event: Event<'_>, desk: &mut Desk<'_>, page: &mut Page<'_>) {
     // The run lends no more than there is, which `min` says here.
-    let stored = run.stored.min(run.store.len());
-    let width = run.width.min(run.output.len());
-    let words = &mut *run.words;
-    let store = &mut run.store[..stored];
-    let output = &mut run.output[..width];
+    let stored = desk.run.stored.min(desk.store.len());
+    let width = desk.run.width.min(desk.output.len());
+    let words = &mut *desk.words;
+    let store = &mut desk.store[..stored];
+    let output = &mut desk.output[..width];
     let answer = match event {
         Event::Open(time, route) => manager::open(words, store, output, time, route),
         Event::Close(time, route, reason) => {
@@ -55,12 +55,12 @@ fn happen(event: Event<'_>, run: &mut Run<'_>, page: &mut Page<'_>) {
 pub fn answer(
     line: &[u8],
     octets: &mut [u8],
-    run: &mut Run<'_>,
+    desk: &mut Desk<'_>,
     page: &mut Page<'_>,
 ) -> Result<(), Wrong> {
     let command = command_of(line, octets).ok_or(Wrong)?;
-    if let Some(event) = run.carry_out(command, page)? {
-        happen(event, run, page);
+    if let Some(event) = desk.carry_out(command, page)? {
+        happen(event, desk, page);
     }
     Ok(())
 }

@@ -3,7 +3,7 @@
 
 mod happening;
 
-use gatesteps::Run;
+use gatesteps::Desk;
 use textlines::{Lines, Page, zeros};
 
 fn main(rt: HostRuntime) {
@@ -15,10 +15,10 @@ fn main(rt: HostRuntime) {
     let mut output = zeros::<524288>();
     let mut printed = zeros::<65536>();
     let mut lines = Lines::new(rt.stdin(), &mut input, &mut line);
-    let mut run = Run::new(&mut words, &mut store, &mut output);
+    let mut desk = Desk::new(&mut words, &mut store, &mut output);
     let mut page = Page::new(rt.stdout(), &mut printed);
     let end = lines.answer_all(&mut page, |line, page| {
-        happening::answer(line, &mut octets, &mut run, page)
+        happening::answer(line, &mut octets, &mut desk, page)
     });
     page.finish(end, lines.number());
 }

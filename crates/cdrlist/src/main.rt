@@ -11,8 +11,15 @@ const LONGEST: usize = 65536;
 // The line of a file: length, header length, number of records, sequence number, closure reason, lost indicator.
 fn print_file(page: &mut Page<'_>, length: usize, c: Contents) {
     let h = c.header;
-    print!(page; "F {length} {} {}", c.records.start, c.count);
-    println!(page; " {} {} {}", h.sequence, h.reason, h.lost);
+    let numbers = [
+        length as u64,
+        c.records.start as u64,
+        c.count as u64,
+        u64::from(h.sequence),
+        u64::from(h.reason),
+        u64::from(h.lost),
+    ];
+    page.put_line(b'F', numbers);
 }
 
 // The lines of so many records, of which the first stands at `start`: its index, the offset of its header, the length of its body. A write that fails ends
@@ -25,7 +32,7 @@ fn print_records(page: &mut Page<'_>, file: &[u8], start: usize, count: usize) {
         if s.refusal != 0 || !page.works() {
             return;
         }
-        println!(page; "R {index} {at} {}", s.body);
+        page.put_line(b'R', [index as u64, at as u64, s.body as u64]);
         at += s.header + s.body;
     }
 }
@@ -33,12 +40,12 @@ fn print_records(page: &mut Page<'_>, file: &[u8], start: usize, count: usize) {
 // The lines of any octets: those beyond the program's limit are refused with 8.
 fn list(page: &mut Page<'_>, file: &[u8]) {
     if LONGEST < file.len() {
-        println!(page; "E 8");
+        page.put_line(b'E', [8]);
         return;
     }
     let c = reader::read(file);
     if c.refusal != 0 {
-        println!(page; "E {}", c.refusal);
+        page.put_line(b'E', [u64::from(c.refusal)]);
         return;
     }
     print_file(page, file.len(), c);
@@ -48,7 +55,7 @@ fn list(page: &mut Page<'_>, file: &[u8]) {
 fn main(rt: HostRuntime) {
     // An octet more than the longest file, so that a longer one shows.
     let mut buffer = zeros::<65537>();
-    let mut printed = zeros::<65536>();
+    let mut printed = zeros::<4096>();
     let mut page = Page::new(rt.stdout(), &mut printed);
     let n = streams::read_full(rt.stdin(), &mut buffer);
     list(&mut page, &buffer[..n]);

@@ -11,9 +11,18 @@ fn put_word(page: &mut Page<'_>, octets: &[u8]) {
 }
 
 fn print_fields(page: &mut Page<'_>, f: Fields) {
-    print!(page; " {} {} {} {}", f.count, f.year, f.month, f.day);
-    print!(page; " {} {}", f.hour, f.minute);
-    print!(page; " {} {} {}", f.sign, f.dev_hour, f.dev_minute);
+    let numbers = [
+        f.count,
+        f.year,
+        f.month,
+        f.day,
+        f.hour,
+        f.minute,
+        f.sign,
+        f.dev_hour,
+        f.dev_minute,
+    ];
+    page.put_fields(numbers.map(u64::from));
 }
 
 // What a right name says. For a private part that is not there stands `-`.
@@ -21,7 +30,7 @@ fn print_name(page: &mut Page<'_>, n: Name, name: &[u8]) {
     put_word(page, part(name, 0, n.node));
     print_fields(page, n.fields);
     if n.fields.has == 0 {
-        page.print(" -");
+        put_word(page, b"-");
     } else {
         put_word(
             page,
@@ -33,11 +42,12 @@ fn print_name(page: &mut Page<'_>, n: Name, name: &[u8]) {
 // The answer to `N`.
 fn print_read(page: &mut Page<'_>, name: &[u8]) {
     let n = filename::read(name);
-    print!(page; "N {}", n.refusal);
+    page.put(b'N');
+    page.put_fields([u64::from(n.refusal)]);
     if n.refusal == 0 {
         print_name(page, n, name);
     }
-    println!(page);
+    page.put(b'\n');
 }
 
 // The answer to `W`. More than the longest name has make no difference to the output.
@@ -45,11 +55,12 @@ fn print_written(page: &mut Page<'_>, order: Order<'_>) {
     let mut output = [0u8; 100];
     let room = order.room.min(output.len());
     let w = filename::write(order.fields, order.node, order.private, &mut output[..room]);
-    print!(page; "W {}", w.refusal);
+    page.put(b'W');
+    page.put_fields([u64::from(w.refusal)]);
     if w.refusal == 0 {
         put_word(page, part(&output, 0, w.octets));
     }
-    println!(page);
+    page.put(b'\n');
 }
 
 // The answer to a line.

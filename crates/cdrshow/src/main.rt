@@ -19,7 +19,7 @@ fn main(rt: HostRuntime) {
     match lines.peek() {
         None => page.finish(Err(Wrong), 1),
         Some(0) => {
-            print_file(&mut page, "", lines.whole());
+            print_file(&mut page, b"", lines.whole());
             page.flush();
         }
         Some(_) => {

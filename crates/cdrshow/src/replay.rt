@@ -88,7 +88,7 @@ fn say_malformed(rest: &[u8], page: &mut Page<'_>) -> Result<(), Wrong> {
 }
 
 fn say_file(rest: &[u8], octets: &mut [u8], page: &mut Page<'_>) -> Result<(), Wrong> {
-    print_file(page, "  ", octets_of(rest, octets)?);
+    print_file(page, b"  ", octets_of(rest, octets)?);
     Ok(())
 }
 

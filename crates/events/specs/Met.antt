@@ -2,7 +2,7 @@
 -- the effective time, whose local minute of day is one of the route's set minutes. The events work it out (`met`) by counting: a set minute
 -- has fallen in a file's time where it has fallen more often up to the effective time than up to the opening. `met_true` and `true_met`: the
 -- two say the same, of every opening, effective time and offset. Assumes nothing.
-use Rattle.std.specs.Prelude.{◌≡◌, ℕ, ◌+◌, ◌-◌, ◌*◌, ◌/◌, ◌%◌, ◌<◌, ◌≤◌, Bool, true, List, nat_lt}
+use Rattle.std.specs.Prelude.{◌≡◌, ℕ, ◌+◌, ◌-◌, ◌*◌, ◌/◌, ◌%◌, ◌<◌, ◌≤◌, Bool, true, List, length, nat_lt}
 use Rattle.std.proofs.Common.{arith, ltb-true, lt-ltb}
 use Rattle.refusals.specs.Below.{any_below, any_one, one_any}
 use Rattle.timestamp.specs.LocalTime.{local_time}
@@ -64,6 +64,7 @@ module _ (sets : List ℕ) (i bias opened time : ℕ) (w : SetWithin sets i) whe
 
 -- What the code needs to work it out.
 pub record Meetable (words : List ℕ) (i bias opened time : ℕ) : Type 0 where
+  pub number : length words ≡ 360
   pub route : i < 8
   pub offset : bias ≤ 2878
   pub sets : SetWithin (manager_in words).set_times i

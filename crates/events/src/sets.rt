@@ -23,10 +23,14 @@ fn does_fall(words: &Words, i: usize, j: usize, bias: u32, opened: u32, time: u3
     fallen(bias, minute, opened) < fallen(bias, minute, time)
 }
 
-// Whether one of route i's set minutes has.
+// Whether one of route i's set minutes has. Each is asked, whatever the others say: so the loop has no branch.
 pub fn is_met(words: &Words, i: usize, bias: u32, opened: u32, time: u32) -> bool
     requires { Meetable words.now i bias opened time }
     ensures { result ≡ met (manager_in words.now).set_times i bias opened time }
 {
-    (0..set_count(words, i)).any(|j| does_fall(words, i, j, bias, opened, time))
+    let mut any = false;
+    for j in 0..set_count(words, i) {
+        any |= does_fall(words, i, j, bias, opened, time);
+    }
+    any
 }

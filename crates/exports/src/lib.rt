@@ -206,7 +206,7 @@ pub extern "C" fn cdr_name_write(
     filename::write(f, node, private, output)
 }
 
-// It needs 2 MiB of stack, for the offsets of the records of both files.
+// It needs 3 MiB of stack, for the offsets of the records of both files and to sort them in.
 #[unsafe(no_mangle)]
 pub extern "C" fn cdr_reconcile(first: &[u8], second: &[u8]) -> Reconciled
     ensures { result ≡ reconciled_of first.now second.now }

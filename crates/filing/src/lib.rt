@@ -81,7 +81,8 @@ pub fn append(
 fn address_of(node: [u8; 16]) -> [u8; 20]
     ensures { result ≡ filler ++ node }
 {
-    let mut address = [0xFF; 20];
+    let mut address = [0; 20];
+    address[..4].copy_from_slice(b"\xFF\xFF\xFF\xFF");
     address[4..].copy_from_slice(&node);
     address
 }

@@ -28,35 +28,49 @@ impl Stage {
     }
 }
 
-// The manager's words, the memory of its store and of its outputs, how many octets of either are lent to it, and where the run stands. A later
-// line may lend more of either: so a count, and no shorter slice.
-#[derive(Drop)]
-pub struct Run<'a> {
-    pub words: &'a mut Words,
-    pub store: &'a mut [u8],
-    pub output: &'a mut [u8],
+// What goes from line to line beside the memory that is lent: how many octets the store and the outputs have, and where the run stands.
+#[derive(Clone, Copy)]
+pub struct Run {
     pub stored: usize,
     pub width: usize,
     stage: Stage,
 }
 
-impl<'a> Run<'a> {
+impl Run {
     // No script has begun.
-    pub fn new(words: &'a mut Words, store: &'a mut [u8], output: &'a mut [u8]) -> Run<'a> {
+    fn new() -> Run {
         Run {
-            words,
-            store,
-            output,
             stored: 0,
             width: WIDTH,
             stage: Stage::Bare,
+        }
+    }
+}
+
+// The manager's words, the memory of its store and of its outputs, and the run on them. A later line may lend more of either: so the run has
+// their counts, and these are no shorter slices.
+#[derive(Drop)]
+pub struct Desk<'a> {
+    pub words: &'a mut Words,
+    pub store: &'a mut [u8],
+    pub output: &'a mut [u8],
+    pub run: Run,
+}
+
+impl<'a> Desk<'a> {
+    pub fn new(words: &'a mut Words, store: &'a mut [u8], output: &'a mut [u8]) -> Desk<'a> {
+        Desk {
+            words,
+            store,
+            output,
+            run: Run::new(),
         }
     }
 
     // Lends the manager so much of the store, all of it zeros.
     fn lend_store(&mut self, octets: usize) -> Result<(), Wrong> {
         self.store.get_mut(..octets).ok_or(Wrong)?.fill(0);
-        self.stored = octets;
+        self.run.stored = octets;
         Ok(())
     }
 
@@ -66,22 +80,22 @@ impl<'a> Run<'a> {
         let loaded = settings::load(octets);
         if loaded.refusal != 0 {
             print_settings(page, loaded.refusal, 0);
-            self.stage = Stage::Refused;
+            self.run.stage = Stage::Refused;
             return Ok(());
         }
         let fresh = loaded.words;
         *self.words = fresh;
         let regions = judging::regions_of(self.words);
         self.lend_store(regions)?;
-        self.width = WIDTH;
-        self.stage = Stage::Fresh;
+        self.run.width = WIDTH;
+        self.run.stage = Stage::Fresh;
         print_settings(page, 0, words::count_of(self.words));
         Ok(())
     }
 
     // A store of so many octets, if no event came since the settings line.
     fn set_store(&mut self, octets: usize) -> Result<(), Wrong> {
-        if !self.stage.follows_settings() {
+        if !self.run.stage.follows_settings() {
             return Err(Wrong);
         }
         self.lend_store(octets)
@@ -92,13 +106,13 @@ impl<'a> Run<'a> {
         if WIDTH < octets {
             return Err(Wrong);
         }
-        self.width = octets;
+        self.run.width = octets;
         Ok(())
     }
 
     // The state and any event need a manager.
     fn need_manager(&self) -> Result<(), Wrong> {
-        if self.stage.has_manager() {
+        if self.run.stage.has_manager() {
             Ok(())
         } else {
             Err(Wrong)
@@ -118,7 +132,7 @@ impl<'a> Run<'a> {
             Command::Width(octets) => self.set_width(octets)?,
             Command::Happening(event) => {
                 self.need_manager()?;
-                self.stage = Stage::Used;
+                self.run.stage = Stage::Used;
                 return Ok(Some(event));
             }
             Command::State => {

@@ -10,7 +10,7 @@ mod ranges;
 mod regions;
 mod sets;
 
-ghost use Rattle.std.specs.Prelude.{◌≡◌, []};
+ghost use Rattle.std.specs.Prelude.{◌≡◌, [], length};
 ghost use Rattle.refusals.specs.Number.{number_of};
 ghost use Rattle.refusals.specs.Refusal.{first};
 ghost use Rattle.state.specs.Common.{judged, common};
@@ -34,6 +34,20 @@ pub fn judge_state(words: &Words, store: usize) -> Result<(), Refusal>
         return Err(Refusal::Store);
     }
     Ok(())
+}
+
+// The same on words that are lent as a slice, by the refusal's number, or 0. Were they not as many as a state has, it would be 18.
+pub fn state_refusal(words: &[u32], store: usize) -> u8
+    requires { length words.now ≡ 360 }
+    ensures { result ≡ first (judged (manager_in words.now) store []) }
+{
+    let Some(words) = words.as_array::<360>() else {
+        return Refusal::State.number();
+    };
+    match judge_state(words, store) {
+        Ok(()) => 0,
+        Err(refusal) => refusal.number(),
+    }
 }
 
 // The first of 18, 16 and 4 that applies.

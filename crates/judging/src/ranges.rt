@@ -1,10 +1,10 @@
 // Settings in range (document 01, Settings, Refusals 2 and 18), on a route's words.
-ghost use Rattle.std.specs.Prelude.{◌≡◌};
+ghost use Rattle.std.specs.Prelude.{◌≡◌, ◌≤◌, length};
 ghost use Rattle.state.specs.Bounds.{zero_from, settings_right};
 ghost use Rattle.words.specs.Words.{settings_in};
 ghost use Rattle.judging.specs.Unused.{rest_zero};
 
-use words::{RouteWords, release_in, top_of};
+use words::{release_in, top_of};
 
 // Whether the octets of a word from its u-th on are 0.
 fn rest_zero(w: u32, u: usize) -> bool
@@ -20,7 +20,8 @@ fn rest_zero(w: u32, u: usize) -> bool
 }
 
 // Whether the filter's octets from n on are 0: from the last word down to the one in which the last octet that counts stands.
-fn unused_zero(part: &RouteWords, n: usize) -> bool
+fn unused_zero(part: &[u32], n: usize) -> bool
+    requires { 19 ≤ length part.now }
     ensures { result ≡ zero_from (settings_in part.now).filter n 20 }
 {
     for k in (1..5).rev() {
@@ -36,7 +37,8 @@ fn unused_zero(part: &RouteWords, n: usize) -> bool
 
 // Whether the settings of the route that these words begin with are in range. The filter is tested as words: laid out as octets
 // first, it would be waited for.
-pub fn settings_right(part: &RouteWords) -> bool
+pub fn settings_right(part: &[u32]) -> bool
+    requires { 19 ≤ length part.now }
     ensures { result ≡ settings_right (settings_in part.now) }
 {
     let octets = top_of(part[5]);

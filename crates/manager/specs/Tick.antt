@@ -82,11 +82,12 @@ pub record Endable (m : Manager) (t n : ℕ) : Type 0 where
   pub few : n ≤ m.count
   pub time : t ≤ 52595999
 
-module _ (words : List ℕ) {t n : ℕ} (k : Endable (manager_in words) t n) where
+module _ (words : List ℕ) (number : length words ≡ 360) {t n : ℕ} (k : Endable (manager_in words) t n) where
   -- a route's set minutes can be looked at
   pub meetable : (i : ℕ) → i < n → {opened bias : ℕ} → opened < 2147483648 → bias ≡ (manager_in words).bias → Meetable words i bias opened t
   meetable i h low e =
       record {
+        number = number;
         route = omega (arith, k.state.few, k.few);
         offset = omega (arith, k.state.bias);
         sets = set_within (manager_in words).set_times (manager_in words).count k.state.sets i (omega (arith, k.few));
@@ -176,6 +177,7 @@ module _ (words₀ : List ℕ) (t n : ℕ) (store output : List ℕ) where
     pub meets : Ticks m t n store output → {opened : ℕ} → opened < 2147483648 → {bias : ℕ} → bias ≡ m.bias → Meetable words i bias opened t
     meets k low e =
         record {
+          number = v.number;
           route = omega (arith, k.state.few, k.few);
           offset = omega (arith, k.state.bias);
           sets =

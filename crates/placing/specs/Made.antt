@@ -18,16 +18,9 @@ use Rattle.filing.specs.Needs.{Appendable, Closable}
 use Rattle.events.specs.declared.Arrival.{Arrival}
 use Rattle.events.specs.Rules.{opened_route, closed_route, header_for, record_size, appended_route, full}
 use Rattle.events.specs.Receive.{turns, turn_reason, ready, holding, finished, record_of, placed_size, placed_files, store_with, turned_file, filled_file}
+use Rattle.placing.specs.declared.Placed.{Placed}
 use Rattle.placing.specs.Plan.{Plan, planned, finished_by, Placeable, Roomy, ready_roomy}
 use Rattle.placing.specs.Files.{closed_if, size_if, length_if, closed_behind}
-
--- what placing a record leaves of its route, and the number and the octets of the files that it closes; or that they do not fit the output, with
--- the octets that they need
-pub record Placed : Type 0 where
-  pub fits : Bool
-  pub route : Route
-  pub files : ℕ
-  pub octets : ℕ
 
 -- what placing a record leaves
 pub record Left : Type 0 where

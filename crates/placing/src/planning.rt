@@ -1,12 +1,12 @@
 // What a placed record does to its route (document 01, The events), worked out before anything is written.
-ghost use Rattle.std.specs.Prelude.{◌≡◌, ◌≤◌, ◌||◌, cond, is_some};
+ghost use Rattle.std.specs.Prelude.{◌≡◌, ◌≤◌, ◌||◌, cond, None, is_some};
 ghost use Rattle.events.specs.Rules.{header_for, differs, exceeds};
 ghost use Rattle.placing.specs.Plan.{Usable, Suitable, readied, planned, finished_by};
 ghost use Rattle.placing.specs.Made.{placed_by};
-ghost use Rattle.placing.specs.Views.{reason_of, plan_of, fitting};
+ghost use Rattle.placing.specs.Views.{reason_of, plan_in, plan_of, fitting};
 
 use crate::file::{appended_route, does_differ, does_exceed, is_full};
-use crate::{Placed, Plan};
+use crate::{Done, Plan, Taker};
 use events::Arrival;
 use filing::Reason;
 use record::{RecordHeader, Release};
@@ -67,32 +67,32 @@ pub fn plan_for(r: Route, a: Arrival, body: usize, t: u32) -> Plan
     let q = ready(r, turn.is_some(), t);
     let holding = appended_route(q, h, octets as u32, t);
     let fills = is_full(holding);
-    Plan {
-        turn,
+    let taker = Taker {
         used: q.file.octets,
         holding,
         fills,
-    }
+    };
+    Plan { turn, taker }
 }
 
-// The route behind the event: closed, if the record fills its file.
-fn finished(p: Plan) -> Route
-    ensures { result ≡ finished_by (plan_of p) }
+// The route behind the event: closed, if the record fills its file. Whether another closed before it does not matter here.
+pub fn finished(taker: Taker) -> Route
+    ensures { result ≡ finished_by (plan_in None taker) }
 {
-    if p.fills {
-        events::closed_route(p.holding)
+    if taker.fills {
+        events::closed_route(taker.holding)
     } else {
-        p.holding
+        taker.holding
     }
 }
 
 // What the plan leaves, with the octets of the files that it closes.
-pub fn placed_by(p: Plan, octets: usize) -> Placed
+pub fn placed_by(p: Plan, octets: usize) -> Done
     ensures { fitting result ≡ placed_by (plan_of p) octets }
 {
-    Placed {
-        route: finished(p),
-        files: u8::from(p.turn.is_some()) + u8::from(p.fills),
+    Done {
+        route: finished(p.taker),
+        files: u8::from(p.turn.is_some()) + u8::from(p.taker.fills),
         octets,
     }
 }

@@ -61,6 +61,9 @@ struct Accepted<'a> {
 // Files of at most so many records are counted in little room: clearing the most takes longer than to sort a thousand.
 const FEW: usize = 4096;
 
+// And of at most so many in an eighth of the most: bodies are mostly of some octets.
+const MANY: usize = 32768;
+
 // A file of 1,048,576 octets has not more records.
 const MOST: usize = 262144;
 
@@ -95,13 +98,13 @@ impl<'a> Accepted<'a> {
         })
     }
 
-    // Writes the offsets of the records, arranged by the records' octets.
-    fn arrange(self, out: &mut [u32]) -> usize
-        requires { self.count ≤ length out.old }
+    // Writes the offsets of the records, arranged by the records' octets. `spare` is lent to work in.
+    fn arrange(self, out: &mut [u32], spare: &mut [u32]) -> usize
+        requires { (self.count ≤ length out.old) × (length out.old ≡ length spare.old) }
         ensures { (result ≤ length out.old) × Arranged (comes_before self.entry.file.now) (offsets_of self.entry.file.now self.entry.start) (take result out.new) }
     {
         let n = offsets::place(self.file, self.start, out);
-        sorting::arrange(self.file, &mut out[..n]);
+        sorting::arrange(self.file, &mut out[..n], &mut spare[..n]);
         n
     }
 }
@@ -115,8 +118,9 @@ fn share_in<const N: usize>(f: Accepted<'_>, g: Accepted<'_>) -> Shares
 {
     let mut x = [0; N];
     let mut y = [0; N];
-    let n = f.arrange(&mut x);
-    let m = g.arrange(&mut y);
+    let mut spare = [0; N];
+    let n = f.arrange(&mut x, &mut spare);
+    let m = g.arrange(&mut y, &mut spare);
     let both = sharing::count_both(f.file, &x[..n], g.file, &y[..m]);
     Shares {
         both,
@@ -132,6 +136,9 @@ fn share(f: Accepted<'_>, g: Accepted<'_>) -> Shares
     if f.count <= FEW && g.count <= FEW {
         return share_in::<FEW>(f, g);
     }
+    if f.count <= MANY && g.count <= MANY {
+        return share_in::<MANY>(f, g);
+    }
     share_in::<MOST>(f, g)
 }
 
@@ -144,7 +151,7 @@ fn hold_together(first: &[u8], second: &[u8]) -> Result<Shares, Refused>
     Ok(share(f, g))
 }
 
-// Two files of any content and length, their records counted by multiplicity. It needs 2 MiB of the stack (`MOST`).
+// Two files of any content and length, their records counted by multiplicity. It needs 3 MiB of the stack (`MOST`).
 pub fn reconcile(first: &[u8], second: &[u8]) -> Reconciled
     ensures { result ≡ reconciled_of first.now second.now }
 {

@@ -1,7 +1,7 @@
 // The fields of a header and of a record, in the words of a line.
 use record::{RecordHeader, Release};
 use std::fmt::{self, Display, Formatter, Write};
-use textlines::Digits;
+use textlines::Page;
 use timestamp::Timestamp;
 
 // A field that is printed in words.
@@ -49,10 +49,10 @@ impl Display for InWords<Timestamp> {
 }
 
 // The 20 octets of the address: the filler apart from the other 16.
-impl Display for InWords<[u8; 20]> {
-    fn fmt<W: Write>(&self, f: &mut Formatter<W>) -> fmt::Result {
-        write!(f, "{} {}", Digits(&self.0[..4]), Digits(&self.0[4..]))
-    }
+pub fn print_address(page: &mut Page<'_>, address: &[u8; 20]) {
+    page.put_digits(&address[..4]);
+    page.put(b' ');
+    page.put_digits(&address[4..]);
 }
 
 // The name of a record's format (000, 6.1.2.4).
@@ -105,14 +105,10 @@ impl Display for InWords<RecordHeader> {
 }
 
 // Octets, or the word for none of them.
-#[derive(Clone, Copy)]
-pub struct DigitsOr<'a>(pub &'a [u8], pub &'a str);
-
-impl<'a> Display for DigitsOr<'a> {
-    fn fmt<W: Write>(&self, f: &mut Formatter<W>) -> fmt::Result {
-        if self.0.is_empty() {
-            return f.write_str(self.1);
-        }
-        Digits(self.0).fmt(f)
+pub fn print_octets_or(page: &mut Page<'_>, octets: &[u8], none: &[u8]) {
+    if octets.is_empty() {
+        page.put_all(none);
+    } else {
+        page.put_digits(octets);
     }
 }

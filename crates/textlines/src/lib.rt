@@ -7,8 +7,8 @@ mod lines;
 mod page;
 mod words;
 
-pub use lines::{Lines, Wrong};
-pub use page::{Digits, Page};
+pub use lines::{LINES, Lines, Wrong};
+pub use page::Page;
 pub use words::{Words, number_of};
 
 // The `count` octets from `from` on, or none where these do not all stand there.

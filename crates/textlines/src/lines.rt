@@ -5,7 +5,7 @@ use crate::page::Page;
 use std::io::Stdin;
 
 // The most lines that a program takes: its loop must be shown to end.
-const LINES: u64 = 4000000000;
+pub const LINES: u64 = 4000000000;
 
 // A line that is wrong or beyond the program's limits: the run ends there.
 #[derive(Clone, Copy, Debug, PartialEq, Eq)]
@@ -110,10 +110,11 @@ impl<'a> Lines<'a> {
             let Some(line) = self.take()? else {
                 return Ok(());
             };
-            answer(line, page)?;
+            let said = answer(line, page);
             if page.is_read_along() && !self.has_line() {
                 page.flush();
             }
+            said?;
             if !page.works() {
                 return Ok(());
             }
@@ -129,7 +130,7 @@ impl<'a> Lines<'a> {
     }
 
     // Whether a whole line is left of the buffer, so that it is taken without waiting for more of the input.
-    fn has_line(&self) -> bool {
+    pub fn has_line(&self) -> bool {
         let left = self.input.at..self.input.end;
         match self.input.buffer.get(left) {
             Some(rest) => rest.contains(&b'\n'),

@@ -1,5 +1,7 @@
 // The lines that are printed. They are collected on a page, which is written to standard output when it is full.
-ghost use Rattle.std.specs.Prelude.{◌≡◌};
+ghost use Rattle.std.specs.Prelude.{◌≡◌, ◌+◌, ◌-◌, ◌^◌, ◌≤◌, ◌<◌, length, take, drop};
+ghost use Rattle.numerals.specs.Decimal.{digits};
+ghost use Rattle.numerals.specs.Hexadecimal.{hex_of};
 
 use crate::lines::Wrong;
 use numerals::hex_digit;
@@ -67,11 +69,63 @@ impl<'a> Page<'a> {
         }
     }
 
-    // Puts octets that need not be text, one by one: the page may be full within them.
-    pub fn put_all(&mut self, octets: &[u8]) {
-        for octet in octets {
-            self.put(*octet);
+    // Puts octets behind the others, if the page has room for them all, and answers whether it has.
+    fn put_here(&mut self, octets: &[u8]) -> bool {
+        let (filled, count) = (self.filled, octets.len());
+        let Some(room) = self.octets.get_mut(filled..) else {
+            return false;
+        };
+        let Some(place) = room.get_mut(..count) else {
+            return false;
+        };
+        place.copy_from_slice(octets);
+        self.filled = filled + count;
+        true
+    }
+
+    // Fills the page with the first of the octets, and puts the others on the next one, and so on. Few pieces come here, so it is kept out of `put_all`.
+    #[cold]
+    fn put_across(&mut self, octets: &[u8]) {
+        let room = self.octets.len().saturating_sub(self.filled);
+        let (first, rest) = octets.split_at_checked(room).unwrap_or((octets, &[]));
+        self.put_here(first);
+        for more in rest.chunks(self.octets.len().max(1)) {
+            self.flush();
+            self.put_here(more);
         }
+    }
+
+    // Puts octets that need not be text.
+    pub fn put_all(&mut self, octets: &[u8]) {
+        if !self.put_here(octets) {
+            self.put_across(octets);
+        }
+    }
+
+    // Puts a number behind a space. Most have one digit.
+    pub fn put_field(&mut self, number: u64) {
+        if number < 10 {
+            self.put(b' ');
+            self.put(b'0' + number as u8);
+            return;
+        }
+        let mut slip = [b' '; 21];
+        let start = lay_number(&mut slip, number);
+        self.put_all(&slip[start - 1..]);
+    }
+
+    // Puts numbers, each behind a space.
+    pub fn put_fields<const N: usize>(&mut self, numbers: [u64; N]) {
+        for number in numbers {
+            self.put_field(number);
+        }
+    }
+
+    // Puts a line: a letter and numbers, each behind a space.
+    pub fn put_line<const N: usize>(&mut self, letter: u8, numbers: [u64; N]) {
+        self.put(letter);
+        self.put_fields(numbers);
+        self.put(b'\n');
     }
 
     // Puts words that are laid on a slip of paper of 128 octets; what lays them answers how many octets they have.
@@ -81,6 +135,13 @@ impl<'a> Page<'a> {
         let mut slip = [0u8; 128];
         let count = lay(&mut slip);
         self.put_all(slip.get(..count).unwrap_or_default());
+    }
+
+    // Puts octets as their digits, two each.
+    pub fn put_digits(&mut self, octets: &[u8]) {
+        for some in octets.chunks(64) {
+            self.put_laid(|slip| lay_digits(slip, some));
+        }
     }
 
     // What `print!(page; ..)` calls. A page that cannot be written is remembered, and takes what its line still prints.
@@ -96,7 +157,7 @@ impl<'a> Page<'a> {
     // Writes out the last page, with an error behind its lines where the run ended at a wrong line, the one of this number.
     pub fn finish(&mut self, end: Result<(), Wrong>, number: u64) {
         if end.is_err() {
-            println!(self; "E {number}");
+            self.put_line(b'E', [number]);
         }
         self.flush();
     }
@@ -109,16 +170,29 @@ impl<'a> Write for Page<'a> {
     }
 }
 
-// Octets that are printed as their digits, two each.
-#[derive(Clone, Copy)]
-pub struct Digits<'a>(pub &'a [u8]);
-
-impl<'a> Display for Digits<'a> {
-    fn fmt<W: Write>(&self, f: &mut fmt::Formatter<W>) -> fmt::Result {
-        for octet in self.0 {
-            f.write_char(hex_digit(octet / 16) as char)?;
-            f.write_char(hex_digit(octet % 16) as char)?;
+// The digits of a number at the end of a slip, without leading zeros, and where they begin: an octet is left in front of them.
+fn lay_number(slip: &mut [u8; 21], number: u64) -> usize
+    ensures { (1 ≤ result) × (result ≤ 20) × (drop result slip.new ≡ digits (21 - result) number) × (number < 10 ^ (21 - result)) × (result < 20 → 10 ^ (20 - result) ≤ number) }
+{
+    let mut rest = number;
+    for i in 0..20 {
+        slip[20 - i] = b'0' + (rest % 10) as u8;
+        rest /= 10;
+        if rest == 0 {
+            return 20 - i;
         }
-        Ok(())
     }
+    1
+}
+
+// The digits of up to 64 octets, two each, at the start of a slip, and how many they are.
+fn lay_digits(slip: &mut [u8; 128], octets: &[u8]) -> usize
+    requires { length octets.now ≤ 64 }
+    ensures { (result ≡ length octets.now + length octets.now) × (take result slip.new ≡ hex_of octets.now) }
+{
+    for (i, octet) in octets.iter().enumerate() {
+        slip[2 * i] = hex_digit(octet / 16);
+        slip[2 * i + 1] = hex_digit(octet % 16);
+    }
+    2 * octets.len()
 }

@@ -1,5 +1,5 @@
 // What the words say: a route's settings and file, the node's address.
-ghost use Rattle.std.specs.Prelude.{◌≡◌, ◌+◌, ◌*◌, ◌<◌, length, take, drop};
+ghost use Rattle.std.specs.Prelude.{◌≡◌, ◌+◌, ◌*◌, ◌≤◌, ◌<◌, length, take, drop};
 ghost use Rattle.std.specs.List.{flat_map};
 ghost use Rattle.state.specs.Manager.{route_at, settings_at, node_of};
 ghost use Rattle.state.specs.SetTimes.{set_count, set_minute};
@@ -68,8 +68,9 @@ fn address_in(a: u32, b: u32, c: u32, d: u32) -> [u8; 16]
     joined(&[a, b, c, d].map(u32::to_be_bytes))
 }
 
-// What the words of a route say: its settings.
-pub fn settings_in(part: &RouteWords) -> RouteSettings
+// What the words of a route say, which others may follow: its settings.
+pub fn settings_in(part: &[u32]) -> RouteSettings
+    requires { 19 ≤ length part.now }
     ensures { result ≡ settings_in part.now }
 {
     RouteSettings {
@@ -84,7 +85,8 @@ pub fn settings_in(part: &RouteWords) -> RouteSettings
 }
 
 // Its file.
-pub fn file_in(part: &RouteWords) -> OpenFile
+pub fn file_in(part: &[u32]) -> OpenFile
+    requires { 19 ≤ length part.now }
     ensures { (result ≡ file_in part.now) × (result.opened < 2147483648) }
 {
     OpenFile {
@@ -101,7 +103,8 @@ pub fn file_in(part: &RouteWords) -> OpenFile
 
 // The route itself.
 #[tactic(auto, unfolding(crate::specs::Words::route_in))]
-pub fn route_in(part: &RouteWords) -> Route
+pub fn route_in(part: &[u32]) -> Route
+    requires { 19 ≤ length part.now }
     ensures { (result ≡ route_in part.now) × (result.file.opened < 2147483648) }
 {
     Route {

@@ -5,6 +5,7 @@ use mathlib.Core.List.{List, [], ◌++◌, append-nil}
 use lib.ListN.{length, take, drop, set, length-drop, drop_of_length-le}
 use borrow.Rule.Slice.PartMut.{put_mid, Post-is}
 use Rattle.words.specs.Laws.{from_here}
+use Rattle.words.specs.HeldIn.{Words32}
 use Rattle.events.specs.Lent.{Left, left}
 use Rattle.octets.specs.Number.{Octets}
 use Rattle.packets.specs.Packet.{size_of, first_of}
@@ -104,7 +105,7 @@ loop-i-preserved c =
     let size = c.size_at-at.ensures.0 in
     let same : length (x (goal.at.loop-i-preserved c).After-take_at-answer).output ≡ length (drop l.used l.output) =
     sym (ap (λ (y : Left). length y.output) e) ∙ c.output-1.given.0 ∙ ap length (from_here l.output l.used) in
-    let next = taking_next l.invariant (more (goal.at.loop-i-preserved c).After-take_at-answer) (octets (goal.at.loop-i-preserved c).After-take_at-answer) (taken (goal.at.loop-i-preserved c).After-take_at-answer accepted) same refl in
+    let next = taking_next l.invariant (more (goal.at.loop-i-preserved c).After-take_at-answer) (octets (goal.at.loop-i-preserved c).After-take_at-answer) (taken (goal.at.loop-i-preserved c).After-take_at-answer accepted) same (subst (λ (y : Left). Words32 y.words) e c.words_fit.ensures) refl in
     let there : (y : Left) (out : List ℕ) (k : ℕ) → Type 0 = λ (y : Left) (out : List ℕ) (k : ℕ). Taking s.packet.now s.n s.words.now s.store.now s.output.now y.words y.store out
     (record { refusal = l.r.refusal; accepted = l.r.accepted; answers = set l.r.answers l.i y.answer }) (l.at + k) (l.used + y.answer.octets) (l.i + 1) in
     let y = left c.take_at-answer.result c.take_at-answer.new.words c.take_at-answer.new.store c.take_at-answer.new.output in

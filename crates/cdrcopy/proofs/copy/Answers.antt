@@ -18,10 +18,10 @@ fits c =
     let z : (rewrite_of a.file.now a.output.now).answer.refusal ≡ 0 = ap (λ (s : After). s.answer.refusal) (sym e) ∙ c.if-w-ne0.false in
     omega (arith, rewrite_fits a.file.now a.output.now z)
 
-pub slice_bounds-put_all-end : goal.slice_bounds-put_all-end
-slice_bounds-put_all-end c = omega (arith, fits (goal.at.slice_bounds-put_all-end c).Else-w-ne0)
+pub slice_bounds-write_all-end : goal.slice_bounds-write_all-end
+slice_bounds-write_all-end c = omega (arith, fits (goal.at.slice_bounds-write_all-end c).Else-w-ne0)
 
-pub slice_bounds-put_all-end-2 : goal.slice_bounds-put_all-end-2
-slice_bounds-put_all-end-2 c =
-    let written : c.rewrite-w.result.octets ≤ length c.rewrite-w.new.output = omega (arith, fits (goal.at.slice_bounds-put_all-end-2 c).Else-w-ne0) in
+pub slice_bounds-write_all-end-2 : goal.slice_bounds-write_all-end-2
+slice_bounds-write_all-end-2 c =
+    let written : c.rewrite-w.result.octets ≤ length c.rewrite-w.new.output = omega (arith, fits (goal.at.slice_bounds-write_all-end-2 c).Else-w-ne0) in
     sym (length-take-le c.rewrite-w.result.octets c.rewrite-w.new.output written)

@@ -1,4 +1,4 @@
--- `sorting::arrange` meets its contract: std sorts by the order of the records.
+-- `sorting::arrange` meets its contract: offsets in order stay as they stand, and std sorts by the order of the records.
 use Rattle.std.proofs.Common.{◌≡◌, rules}
 use Rattle.std.proofs.lemmas.Fn.{always_returns_same}
 use Rattle.std.specs.Ordering.{is_lt}
@@ -6,8 +6,8 @@ use Rattle.recordorder.specs.At.{comes_before, comes_before_total}
 use Rattle.sorting.specs.Sorted.{ranks, arranged, is_less}
 use Rattle.sorting.proofs.arrange.Goals as goal
 
-pub returns : goal.returns
-returns c =
+pub returns-else-is_nearly_ordered : goal.returns-else-is_nearly_ordered
+returns-else-is_nearly_ordered c =
     let file = c.args.file.now in
     let s = c.sort_unstable_by in
     arranged (comes_before file) (comes_before_total file) c.args.offsets.now s.new.self s.ensures.permutation

@@ -13,7 +13,7 @@ use Rattle.manager.proofs.ticking.due_size.Goals as goal
 pub is_met-met-requires : goal.is_met-met-requires
 unfolding manager_in
 is_met-met-requires c =
-    meetable c.args.words.now c.requires c.loop-i.i c.loop-i-test.true c.route_at-r.ensures.1 refl
+    meetable c.args.words.now c.told-words c.requires c.loop-i.i c.loop-i-test.true c.route_at-r.ensures.1 refl
 
 pub loop-i-preserved : goal.loop-i-preserved
 unfolding manager_in
