@@ -1,9 +1,9 @@
 -- A list whose two parts were lent, arranged and put back, and then merged, is arranged; and without the merge, where the second part does not begin
--- before the end of the first; and with the two in each other's place, where the first does not begin before the end of the second.
-use Rattle.std.specs.Prelude.{◌≡◌, refl, Bool, false, List, [], ◌++◌, ℕ, suc, ◌+◌, ◌-◌, ◌≤◌, ◌<◌, length, take, drop, get_or}
+-- before the end of the first.
+use Rattle.std.specs.Prelude.{◌≡◌, Bool, false, List, [], ◌++◌, ℕ, suc, ◌+◌, ◌-◌, ◌≤◌, ◌<◌, length, take, drop, get_or}
 use Rattle.std.proofs.Common.{sym, ap, ◌∙◌, subst, append-nil, arith, length-take, length-drop, length-append, drop_of_length-le, take_at, drop_at, take_all, get_or-append-add}
 use Rattle.std.proofs.Math.ListN.{get_or-append}
-use Rattle.multisets.specs.Passing.{same_length, passing_append, passing_split}
+use Rattle.multisets.specs.Passing.{same_length}
 use Rattle.multisets.specs.Merge.{Arranged, Total, merge_of, arranged_merge, arranged_append}
 
 module _ (less : ℕ → ℕ → Bool) (t : Total less) (was : List ℕ) (m : ℕ) (h : m ≤ length was) (a b : List ℕ) where
@@ -54,33 +54,3 @@ module _ (less : ℕ → ℕ → Bool) (t : Total less) (was : List ℕ) (m : �
         let y : get_or whole (m - 1) 0 ≡ get_or a (m - 1) 0 = (λ i. get_or (whole_is i) (m - 1) 0) ∙ get_or-append a b 0 (m - 1) (omega arith) in
         subst (Arranged less was) (sym whole_is)
         (arranged_append less t was m (m - 1) a b f second n (omega (arith, second_length)) (sym (λ i. less (x i) (y i)) ∙ e))
-
-    -- in each other's place
-    turned : List ℕ
-    turned = drop m was ++ take m was
-
-    arranged_turned : 0 < length a → 0 < length b → less (get_or a 0 0) (get_or b (length b - 1) 0) ≡ false → Arranged less was (b ++ a)
-    unfolding turned
-    arranged_turned some more e =
-        let n = length (drop m was) in
-        let u : take n turned ≡ drop m was = take_at (drop m was) (take m was) n refl in
-        let v : drop n turned ≡ take m was = drop_at (drop m was) (take m was) n refl in
-        let r =
-        arranged_append less t turned n (length b - 1) b a (subst (λ (k : List ℕ). Arranged less k b) (sym u) second)
-        (subst (λ (k : List ℕ). Arranged less k a) (sym v) f)
-        (omega arith)
-        some
-        e in
-        record { ordered = r.ordered; same = λ p. omega (arith, r.same p, passing_append p (drop m was) (take m was), passing_split p m was) }
-
-    pub halves_turned : 0 < m → m < length was → less (get_or whole 0 0) (get_or whole (length was - 1) 0) ≡ false
-        → (end : List ℕ) → end ≡ drop m whole ++ take m whole → Arranged less was end
-    halves_turned some more e end r =
-        let x : take m whole ≡ a = ap (take m) whole_is ∙ take_at a b m first_length in
-        let y : drop m whole ≡ b = ap (drop m) whole_is ∙ drop_at a b m first_length in
-        let k : length was - 1 ≡ length a + (length b - 1) = omega (arith, first_length, second_length) in
-        let i : get_or whole 0 0 ≡ get_or a 0 0 = (λ i. get_or (whole_is i) 0 0) ∙ get_or-append a b 0 0 (omega (arith, first_length)) in
-        let j : get_or whole (length was - 1) 0 ≡ get_or b (length b - 1) 0 =
-        (λ i. get_or (whole_is i) (k i) 0) ∙ get_or-append-add a b (length b - 1) 0 in
-        subst (Arranged less was) (sym (r ∙ (λ i. y i ++ x i)))
-        (arranged_turned (omega (arith, first_length)) (omega (arith, second_length)) (sym (λ z. less (i z) (j z)) ∙ e))

@@ -72,8 +72,7 @@ fn join(file: &[u8], offsets: &mut [u32], spare: &mut [u32], m: usize)
     copy(spare, offsets);
 }
 
-// Sorts each half. The two stay as they stand where the second does not begin before the end of the first, change places where it ends before the first
-// begins, and else are merged: what rises or falls is passed over once.
+// Sorts each half, and merges the two where the second begins before the end of the first: what lies in order is passed over once.
 fn merge_sort(file: &[u8], offsets: &mut [u32], spare: &mut [u32])
     requires { length offsets.old ≡ length spare.old }
     ensures { Arranged (comes_before file.now) offsets.old offsets.new }
@@ -85,13 +84,8 @@ fn merge_sort(file: &[u8], offsets: &mut [u32], spare: &mut [u32])
     let m = n / 2;
     merge_sort(file, &mut offsets[..m], &mut spare[..m]);
     merge_sort(file, &mut offsets[m..], &mut spare[m..]);
-    if !is_before(file, offsets[m], offsets[m - 1]) {
-        return;
-    }
-    if is_before(file, offsets[0], offsets[n - 1]) {
+    if is_before(file, offsets[m], offsets[m - 1]) {
         join(file, offsets, spare, m);
-    } else {
-        offsets.rotate_left(m);
     }
 }
 
@@ -101,6 +95,16 @@ fn is_in_order(file: &[u8], offsets: &[u32]) -> bool
 {
     for i in 1..offsets.len() {
         if is_before(file, offsets[i], offsets[i - 1]) {
+            return false;
+        }
+    }
+    true
+}
+
+// Whether each comes before the one in front of it. Such a list std turns round in one pass; it decides the time alone.
+fn is_falling(file: &[u8], offsets: &[u32]) -> bool {
+    for pair in offsets.windows(2) {
+        if !is_before(file, pair[1], pair[0]) {
             return false;
         }
     }
@@ -134,7 +138,7 @@ pub fn arrange(file: &[u8], offsets: &mut [u32], spare: &mut [u32])
     if is_in_order(file, offsets) {
         return;
     }
-    if is_nearly_ordered(file, offsets) {
+    if is_nearly_ordered(file, offsets) && !is_falling(file, offsets) {
         merge_sort(file, offsets, spare);
     } else {
         offsets.sort_unstable_by(|a, b| recordorder::compare(file, *a, file, *b));
