@@ -7,10 +7,11 @@ ghost use Rattle.multisets.specs.Passing.{Sorted};
 ghost use Rattle.multisets.specs.Merge.{merge_of, Arranged};
 ghost use Rattle.sorting.specs.Choice.{Choice};
 
-// Of so many offsets two neighbours are looked at to see the order: no power of two, since runs may well be as long as one.
-const APART: usize = 7;
+// `is_nearly_ordered` looks at one offset in so many: what is out of its place by less costs the merge sort few merges. No power of two, since runs may
+// well be as long as one.
+const APART: usize = 61;
 
-// Of so many looks one may turn where merging is still the faster; in no order every second does, and every fourth where there are but two records.
+// Of so many looks one may turn where merging is still the faster; in no order two in three do.
 const SELDOM: usize = 5;
 
 // Whether one record of a file comes before another.
@@ -111,13 +112,14 @@ fn is_falling(file: &[u8], offsets: &[u32]) -> bool {
     true
 }
 
-// Whether the neighbours that are looked at seldom turn from rising to falling or back; equal ones do neither. It decides how the offsets are sorted,
-// and so the time alone.
+// Whether the offsets that are looked at seldom turn from rising to falling or back; equal ones do neither. It decides how the offsets are sorted, and so
+// the time alone.
 fn is_nearly_ordered(file: &[u8], offsets: &[u32]) -> bool {
     let mut turns_left = offsets.len() / APART / SELDOM;
     let mut falling = false;
+    let mut before = None;
     for part in offsets.chunks_exact(APART) {
-        let order = recordorder::compare(file, part[0], file, part[1]);
+        let order = recordorder::compare(file, before.unwrap_or(part[0]), file, part[0]);
         if order.is_ne() && order.is_gt() != falling {
             if turns_left == 0 {
                 return false;
@@ -125,6 +127,7 @@ fn is_nearly_ordered(file: &[u8], offsets: &[u32]) -> bool {
             turns_left -= 1;
             falling = !falling;
         }
+        before = Some(part[0]);
     }
     true
 }
