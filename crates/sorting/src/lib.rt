@@ -11,8 +11,10 @@ ghost use Rattle.sorting.specs.Choice.{Choice};
 // well be as long as one.
 const APART: usize = 61;
 
-// Of so many looks one may turn where merging is still the faster; in no order two in three do.
-const SELDOM: usize = 5;
+// Of so many looks one may turn where merging is still the faster, and a few beside them in a short list; in no order two in three do.
+const SELDOM: usize = 3;
+
+const A_FEW: usize = 4;
 
 // Whether one record of a file comes before another.
 fn is_before(file: &[u8], a: u32, b: u32) -> bool
@@ -115,7 +117,7 @@ fn is_falling(file: &[u8], offsets: &[u32]) -> bool {
 // Whether the offsets that are looked at seldom turn from rising to falling or back; equal ones do neither. It decides how the offsets are sorted, and so
 // the time alone.
 fn is_nearly_ordered(file: &[u8], offsets: &[u32]) -> bool {
-    let mut turns_left = offsets.len() / APART / SELDOM;
+    let mut turns_left = offsets.len() / APART / SELDOM + A_FEW;
     let mut falling = false;
     let mut before = None;
     for part in offsets.chunks_exact(APART) {
