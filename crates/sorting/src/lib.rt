@@ -7,15 +7,6 @@ ghost use Rattle.multisets.specs.Passing.{Sorted};
 ghost use Rattle.multisets.specs.Merge.{merge_of, Arranged};
 ghost use Rattle.sorting.specs.Choice.{Choice};
 
-// `is_nearly_ordered` looks at one offset in so many: what is out of its place by less costs the merge sort few merges. No power of two, since runs may
-// well be as long as one.
-const APART: usize = 61;
-
-// Of so many looks one may turn where merging is still the faster, and a few beside them in a short list; in no order two in three do.
-const SELDOM: usize = 3;
-
-const A_FEW: usize = 4;
-
 // Whether one record of a file comes before another.
 fn is_before(file: &[u8], a: u32, b: u32) -> bool
     ensures { result ≡ comes_before file.now a b }
@@ -114,28 +105,8 @@ fn is_falling(file: &[u8], offsets: &[u32]) -> bool {
     true
 }
 
-// Whether the offsets that are looked at seldom turn from rising to falling or back; equal ones do neither. It decides how the offsets are sorted, and so
-// the time alone.
-fn is_nearly_ordered(file: &[u8], offsets: &[u32]) -> bool {
-    let mut turns_left = offsets.len() / APART / SELDOM + A_FEW;
-    let mut falling = false;
-    let mut before = None;
-    for part in offsets.chunks_exact(APART) {
-        let order = recordorder::compare(file, before.unwrap_or(part[0]), file, part[0]);
-        if order.is_ne() && order.is_gt() != falling {
-            if turns_left == 0 {
-                return false;
-            }
-            turns_left -= 1;
-            falling = !falling;
-        }
-        before = Some(part[0]);
-    }
-    true
-}
-
 // Arranges offsets by the octets of their records. `spare` is lent to work in, and is as long. A gateway files many records in order, equal, or nearly
-// in order, so that is looked for first; records in no order std sorts faster.
+// in order, so that is looked for first, and a merge passes over what is; it takes time by what is out of order.
 pub fn arrange(file: &[u8], offsets: &mut [u32], spare: &mut [u32])
     requires { length offsets.old ≡ length spare.old }
     ensures { Arranged (comes_before file.now) offsets.old offsets.new }
@@ -143,9 +114,9 @@ pub fn arrange(file: &[u8], offsets: &mut [u32], spare: &mut [u32])
     if is_in_order(file, offsets) {
         return;
     }
-    if is_nearly_ordered(file, offsets) && !is_falling(file, offsets) {
-        merge_sort(file, offsets, spare);
-    } else {
+    if is_falling(file, offsets) {
         offsets.sort_unstable_by(|a, b| recordorder::compare(file, *a, file, *b));
+    } else {
+        merge_sort(file, offsets, spare);
     }
 }

@@ -6,8 +6,8 @@ use Rattle.recordorder.specs.At.{comes_before, comes_before_total}
 use Rattle.sorting.specs.Sorted.{ranks, arranged, is_less}
 use Rattle.sorting.proofs.arrange.Goals as goal
 
-pub returns-else-is_nearly_ordered : goal.returns-else-is_nearly_ordered
-returns-else-is_nearly_ordered c =
+pub returns-then-is_falling : goal.returns-then-is_falling
+returns-then-is_falling c =
     let file = c.args.file.now in
     let s = c.sort_unstable_by in
     arranged (comes_before file) (comes_before_total file) c.args.offsets.now s.new.self s.ensures.permutation
