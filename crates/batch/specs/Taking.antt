@@ -89,7 +89,24 @@ glued tried used output rest =
       output = take used output ++ rest.output;
     }
 
--- Before the i-th of n records of a packet, which starts at `at`.
+-- Before the i-th of n records of a packet, which starts at `at`: the state is held to its fields' bounds.
+pub record Underway (xs : List ℕ) (n : ℕ) (words₀ store₀ output₀ words store output : List ℕ) (r : Answers) (at used i : ℕ) : Type 0 where
+  pub tried : List Answer
+  pub many : length tried ≡ i
+  pub says : r ≡ answers_of 0 0 tried
+  pub number : length words ≡ 360
+  pub held : Held (manager_in words)
+  pub right : first (judged (manager_in words) (length store) []) ≡ 0
+  pub long : length store ≡ length store₀
+  pub wide : length output ≡ length output₀
+  pub few : i ≤ 64
+  pub inside : at ≤ length xs
+  pub wholly : whole (64 - i) (drop at xs) ≡ true
+  pub ahead : n ≡ i + length (records_in (64 - i) (drop at xs))
+  pub room : used ≤ length output
+  pub total : take_all (delivered xs) words₀ store₀ output₀ ≡ glued tried used output (take_all (records_in (64 - i) (drop at xs)) words store (drop used output))
+
+-- The same, and each word is of 32 bits, which holds the state to these bounds.
 pub record Taking (xs : List ℕ) (n : ℕ) (words₀ store₀ output₀ words store output : List ℕ) (r : Answers) (at used i : ℕ) : Type 0 where
   pub tried : List Answer
   pub many : length tried ≡ i
@@ -130,6 +147,45 @@ taking_begins xs words store output e number bits right all many =
     taken_same : (t : Taken) → t ≡ glued [] 0 output t
     taken_same t = λ i. record { refusal = t.refusal; accepted = sym (zero-add t.accepted) i; answers = t.answers; words = t.words; store = t.store; output = t.output }
 
+module _ {xs : List ℕ} {n : ℕ} {words₀ store₀ output₀ words store output : List ℕ} {r : Answers} {at used i : ℕ} where
+  abbrev pub underway : Taking xs n words₀ store₀ output₀ words store output r at used i → Underway xs n words₀ store₀ output₀ words store output r at used i
+  underway v =
+      record {
+        tried = v.tried;
+        many = v.many;
+        says = v.says;
+        number = v.number;
+        held = held_in words v.number v.bits;
+        right = v.right;
+        long = v.long;
+        wide = v.wide;
+        few = v.few;
+        inside = v.inside;
+        wholly = v.wholly;
+        ahead = v.ahead;
+        room = v.room;
+        total = v.total;
+      }
+
+  abbrev pub taking : Underway xs n words₀ store₀ output₀ words store output r at used i → Words32 words → Taking xs n words₀ store₀ output₀ words store output r at used i
+  taking u bits =
+      record {
+        tried = u.tried;
+        many = u.many;
+        says = u.says;
+        number = u.number;
+        bits = bits;
+        right = u.right;
+        long = u.long;
+        wide = u.wide;
+        few = u.few;
+        inside = u.inside;
+        wholly = u.wholly;
+        ahead = u.ahead;
+        room = u.room;
+        total = u.total;
+      }
+
 -- a refused record is the last
 stopped : (k : ℕ) (x : Left) (rest : Taken) → (k ≡ 0 → ⊥)
     → before k x rest ≡ record { refusal = k; accepted = 0; answers = x.answer ∷ []; words = x.words; store = x.store; output = x.output }
@@ -146,7 +202,7 @@ set_padded tried i a e h =
     ∙ sym (append_assoc tried (a ∷ []) (replicate (63 - i) no_answer))
     ∙ ap (λ (q : ℕ). (tried ++ (a ∷ [])) ++ replicate q no_answer) l
 
-module _ {xs : List ℕ} {n : ℕ} {words₀ store₀ output₀ words store output : List ℕ} {r : Answers} {at used i : ℕ} (v : Taking xs n words₀ store₀ output₀ words store output r at used i) where
+module _ {xs : List ℕ} {n : ℕ} {words₀ store₀ output₀ words store output : List ℕ} {r : Answers} {at used i : ℕ} (v : Underway xs n words₀ store₀ output₀ words store output r at used i) where
   abbrev ys : List ℕ
   ys = drop at xs
 
@@ -256,7 +312,7 @@ module _ {xs : List ℕ} {n : ℕ} {words₀ store₀ output₀ words store outp
       k = x.answer.octets
 
       pub fit : k ≤ length (drop used output)
-      fit = left_room words store (drop used output) (first_of ys) v.number (held_in words v.number v.bits) low v.right z
+      fit = left_room words store (drop used output) (first_of ys) v.number v.held low v.right z
 
       -- the output, with what the record filled
       module _ (same : length x.output ≡ length (drop used output)) where
@@ -276,13 +332,12 @@ module _ {xs : List ℕ} {n : ℕ} {words₀ store₀ output₀ words store outp
             let e : used + k ≡ length (take used output) + k = ap (λ (q : ℕ). q + k) (sym (length-take-le used output v.room)) in
             ap (λ (q : ℕ). drop q out) e ∙ drop-append-add (take used output) x.output k
 
-        pub taking_next : {r' : Answers} → Words32 x.words → r' ≡ record { refusal = r.refusal; accepted = r.accepted; answers = set r.answers i x.answer }
-            → Taking xs n words₀ store₀ output₀ x.words x.store out r' (at + size_of ys) (used + k) (i + 1)
-        taking_next bits e =
+        pub underway_next : {r' : Answers} → r' ≡ record { refusal = r.refusal; accepted = r.accepted; answers = set r.answers i x.answer }
+            → Underway xs n words₀ store₀ output₀ x.words x.store out r' (at + size_of ys) (used + k) (i + 1)
+        underway_next e =
             let steps : 63 - i ≡ 64 - (i + 1) = omega arith in
             let d = drop-drop (size_of ys) at xs in
             let tried = v.tried ++ (x.answer ∷ []) in
-            let held : Held (manager_in words) = held_in words v.number v.bits in
             record {
               tried = tried;
               many = omega (arith, length-append v.tried (x.answer ∷ []), v.many);
@@ -290,10 +345,10 @@ module _ {xs : List ℕ} {n : ℕ} {words₀ store₀ output₀ words store outp
                   e
                   ∙ ap (λ (q : Answers). record { refusal = q.refusal; accepted = q.accepted; answers = set q.answers i x.answer }) v.says
                   ∙ ap (λ (l : List Answer). record { refusal = 0; accepted = 0; answers = l }) (set_padded v.tried i x.answer v.many below);
-              bits = bits;
-              number = left_number words store (drop used output) (first_of ys) v.number held low v.right;
-              right = left_judged words store (drop used output) (first_of ys) v.number held low v.right;
-              long = left_long words store (drop used output) (first_of ys) v.number held low v.right ∙ v.long;
+              held = left_holds words store (drop used output) (first_of ys) v.number v.held low v.right;
+              number = left_number words store (drop used output) (first_of ys) v.number v.held low v.right;
+              right = left_judged words store (drop used output) (first_of ys) v.number v.held low v.right;
+              long = left_long words store (drop used output) (first_of ys) v.number v.held low v.right ∙ v.long;
               wide = out_length ∙ v.wide;
               few = omega (arith, below);
               inside = taking_fits;
@@ -320,3 +375,8 @@ module _ {xs : List ℕ} {n : ℕ} {words₀ store₀ output₀ words store outp
 
             more_length : {l l' : List Delivered} → l ≡ l' → i + length (first_of ys ∷ l) ≡ i + 1 + length l'
             more_length p = omega (arith, ap length p)
+
+        -- where the words that are left are of 32 bits
+        pub taking_next : {r' : Answers} → Words32 x.words → r' ≡ record { refusal = r.refusal; accepted = r.accepted; answers = set r.answers i x.answer }
+            → Taking xs n words₀ store₀ output₀ x.words x.store out r' (at + size_of ys) (used + k) (i + 1)
+        taking_next bits e = taking (underway_next e) bits

@@ -82,18 +82,32 @@ pub record Endable (m : Manager) (t n : ℕ) : Type 0 where
   pub few : n ≤ m.count
   pub time : t ≤ 52595999
 
+-- what `Meetable` says, but for how many words the state has
+pub record Askable (words : List ℕ) (i bias opened time : ℕ) : Type 0 where
+  pub route : i < 8
+  pub offset : bias ≤ 2878
+  pub sets : SetWithin (manager_in words).set_times i
+  pub before : opened < 2147483648
+  pub now : time < 2147483648
+
+-- it holds of a state within its bounds, however many words that has
+pub askable : (words : List ℕ) {t n : ℕ} → Endable (manager_in words) t n → (i : ℕ) → i < n → {opened bias : ℕ} → opened < 2147483648 → bias ≡ (manager_in words).bias
+    → Askable words i bias opened t
+askable words k i h low e =
+    record {
+      route = omega (arith, k.state.few, k.few);
+      offset = omega (arith, k.state.bias);
+      sets = set_within (manager_in words).set_times (manager_in words).count k.state.sets i (omega (arith, k.few));
+      before = low;
+      now = omega (arith, k.time);
+    }
+
 module _ (words : List ℕ) (number : length words ≡ 360) {t n : ℕ} (k : Endable (manager_in words) t n) where
   -- a route's set minutes can be looked at
   pub meetable : (i : ℕ) → i < n → {opened bias : ℕ} → opened < 2147483648 → bias ≡ (manager_in words).bias → Meetable words i bias opened t
   meetable i h low e =
-      record {
-        number = number;
-        route = omega (arith, k.state.few, k.few);
-        offset = omega (arith, k.state.bias);
-        sets = set_within (manager_in words).set_times (manager_in words).count k.state.sets i (omega (arith, k.few));
-        before = low;
-        now = omega (arith, k.time);
-      }
+      let a = askable words k i h low e in
+      record { number = number; route = a.route; offset = a.offset; sets = a.sets; before = a.before; now = a.now }
 
 -- what the closings need: a state within its bounds, its regions in the store, and room for all files
 pub record Ticks (m : Manager) (t n : ℕ) (store output : List ℕ) : Type 0 where

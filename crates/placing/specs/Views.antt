@@ -6,6 +6,7 @@ use Rattle.std.proofs.Common.{ap}
 use Rattle.refusals.specs.declared.Refusal.{Refusal}
 use Rattle.refusals.specs.Number.{needed}
 use Rattle.filing.specs.declared.Reason.{Reason}
+use Rattle.filing.specs.declared.Reason.TheVariants.{MostRecords}
 use Rattle.filing.specs.Reason.{reason_number}
 use Rattle.state.specs.declared.Route.{Route}
 use Rattle.placing.specs.declared.Plan.{Plan as Steps}
@@ -23,10 +24,16 @@ reason_of None = 1
 reason_of (Some reason) = reason_number reason
 
 -- the file that the record fills closes with 3
-pub filled : (b : Bool) {o : Option ℕ} → o ≡ then_some b 3 → (n : Node) (r : Route) (store : List ℕ) (from : ℕ)
+pub filled : (b : Bool) {o : Option Reason} → o ≡ then_some b MostRecords → (n : Node) (r : Route) (store : List ℕ) (from : ℕ)
+    → closed_if (is_some o) n r (reason_of o) store from ≡ closed_if b n r 3 store from
+filled true e n r store from = ap (λ (o : Option Reason). closed_if (is_some o) n r (reason_of o) store from) e
+filled false e n r store from = ap (λ (o : Option Reason). closed_if (is_some o) n r (reason_of o) store from) e
+
+-- the same, where the reason is given by its number
+pub filled_by_number : (b : Bool) {o : Option ℕ} → o ≡ then_some b 3 → (n : Node) (r : Route) (store : List ℕ) (from : ℕ)
     → closed_if (is_some o) n r (unwrap_or o 1) store from ≡ closed_if b n r 3 store from
-filled true e n r store from = ap (λ (o : Option ℕ). closed_if (is_some o) n r (unwrap_or o 1) store from) e
-filled false e n r store from = ap (λ (o : Option ℕ). closed_if (is_some o) n r (unwrap_or o 1) store from) e
+filled_by_number true e n r store from = ap (λ (o : Option ℕ). closed_if (is_some o) n r (unwrap_or o 1) store from) e
+filled_by_number false e n r store from = ap (λ (o : Option ℕ). closed_if (is_some o) n r (unwrap_or o 1) store from) e
 
 -- a plan by its reason's number, if it has one
 abbrev pub plan_in : Option ℕ → Taker → Plan

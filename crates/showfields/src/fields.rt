@@ -1,7 +1,7 @@
 // The fields of a header and of a record, in the words of a line.
 use record::{RecordHeader, Release};
 use std::fmt::{self, Display, Formatter, Write};
-use textlines::Page;
+use textlines::{Digits, Page};
 use timestamp::Timestamp;
 
 // A field that is printed in words.
@@ -49,6 +49,13 @@ impl Display for InWords<Timestamp> {
 }
 
 // The 20 octets of the address: the filler apart from the other 16.
+impl Display for InWords<[u8; 20]> {
+    fn fmt<W: Write>(&self, f: &mut Formatter<W>) -> fmt::Result {
+        write!(f, "{} {}", Digits(&self.0[..4]), Digits(&self.0[4..]))
+    }
+}
+
+// The same on a page, in less time.
 pub fn print_address(page: &mut Page<'_>, address: &[u8; 20]) {
     page.put_digits(&address[..4]);
     page.put(b' ');
@@ -105,10 +112,45 @@ impl Display for InWords<RecordHeader> {
 }
 
 // Octets, or the word for none of them.
+#[derive(Clone, Copy)]
+pub struct DigitsOr<'a>(pub &'a [u8], pub &'a str);
+
+impl<'a> Display for DigitsOr<'a> {
+    fn fmt<W: Write>(&self, f: &mut Formatter<W>) -> fmt::Result {
+        if self.0.is_empty() {
+            return f.write_str(self.1);
+        }
+        Digits(self.0).fmt(f)
+    }
+}
+
+// The same on a page, in less time.
 pub fn print_octets_or(page: &mut Page<'_>, octets: &[u8], none: &[u8]) {
     if octets.is_empty() {
         page.put_all(none);
     } else {
         page.put_digits(octets);
+    }
+}
+
+#[cfg(test)]
+mod tests {
+    use super::*;
+    use std::test::Fail;
+
+    #[test]
+    fn octets_stand_in_a_text(rt: HostRuntime) -> Result<(), Fail> {
+        let alloc = rt.alloc();
+        let address = [
+            0x01, 0x12, 0x23, 0x34, 0x45, 0x56, 0x67, 0x78, 0x89, 0x9A, 0xAB, 0xBC, 0xCD, 0xDE,
+            0xEF, 0xF0, 0x0F, 0x1E, 0x2D, 0x3C,
+        ];
+        let shown = format!(in alloc; "{}", InWords(address))?;
+        assert_eq!(rt; shown.as_str(), "01122334 45566778899AABBCCDDEEFF00F1E2D3C");
+        let some = format!(in alloc; "{}", DigitsOr(&[0x1F, 0xA0, 0x5C], "none"))?;
+        assert_eq!(rt; some.as_str(), "1FA05C");
+        let none = format!(in alloc; "{}", DigitsOr(&[], "none"))?;
+        assert_eq!(rt; none.as_str(), "none");
+        Ok(())
     }
 }

@@ -4,5 +4,5 @@
 mod fields;
 mod words;
 
-pub use fields::{InWords, print_address, print_octets_or};
+pub use fields::{DigitsOr, InWords, print_address, print_octets_or};
 pub use words::{print_file_refusal, print_lost, print_private, print_reason};

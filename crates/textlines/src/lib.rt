@@ -8,7 +8,7 @@ mod page;
 mod words;
 
 pub use lines::{LINES, Lines, Wrong};
-pub use page::Page;
+pub use page::{Digits, Page};
 pub use words::{Words, number_of};
 
 // The `count` octets from `from` on, or none where these do not all stand there.

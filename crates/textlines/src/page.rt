@@ -170,6 +170,20 @@ impl<'a> Write for Page<'a> {
     }
 }
 
+// Octets that are printed as their digits, two each, in a text of any kind. `put_digits` puts them on a page, in less time.
+#[derive(Clone, Copy)]
+pub struct Digits<'a>(pub &'a [u8]);
+
+impl<'a> Display for Digits<'a> {
+    fn fmt<W: Write>(&self, f: &mut fmt::Formatter<W>) -> fmt::Result {
+        for octet in self.0 {
+            f.write_char(hex_digit(octet / 16) as char)?;
+            f.write_char(hex_digit(octet % 16) as char)?;
+        }
+        Ok(())
+    }
+}
+
 // The digits of a number at the end of a slip, without leading zeros, and where they begin: an octet is left in front of them.
 fn lay_number(slip: &mut [u8; 21], number: u64) -> usize
     ensures { (1 ≤ result) × (result ≤ 20) × (drop result slip.new ≡ digits (21 - result) number) × (number < 10 ^ (21 - result)) × (result < 20 → 10 ^ (20 - result) ≤ number) }
@@ -195,4 +209,17 @@ fn lay_digits(slip: &mut [u8; 128], octets: &[u8]) -> usize
         slip[2 * i + 1] = hex_digit(octet % 16);
     }
     2 * octets.len()
+}
+
+#[cfg(test)]
+mod tests {
+    use super::*;
+    use std::test::Fail;
+
+    #[test]
+    fn digits_stand_in_a_text(rt: HostRuntime) -> Result<(), Fail> {
+        let text = format!(in rt.alloc(); "<{}>", Digits(&[0x00, 0x1F, 0xA0, 0x5C, 0xFF]))?;
+        assert_eq!(rt; text.as_str(), "<001FA05CFF>");
+        Ok(())
+    }
 }

@@ -11,7 +11,7 @@ use Rattle.octets.specs.Number.{Octets}
 use Rattle.packets.specs.Packet.{size_of, first_of}
 use Rattle.packets.specs.Fold.{received}
 use Rattle.batch.specs.Told.{told}
-use Rattle.batch.specs.Taking.{Taking, taking_begins, taking_few, below, taking_fits, fit, ends_told, stops_told, taking_next}
+use Rattle.batch.specs.Taking.{Taking, underway, taking_begins, taking_few, below, taking_fits, fit, ends_told, stops_told, taking_next}
 use Rattle.batch.proofs.take_all.Goals as goal
 use Rattle.batch.proofs.take_all.Goals.{After-take_at-answer}
 
@@ -39,7 +39,7 @@ out_is t ys =
 
 -- there are fewer than 64 before it, and the packet's octets are octets
 low : (t : goal.After-take_at-answer) → t.loop-i.i < 64
-low t = below t.loop-i.invariant (more t)
+low t = below (underway t.loop-i.invariant) (more t)
 
 octets : (t : goal.After-take_at-answer) → Octets t.args.packet.now
 octets t = record { at = λ i. omega (arith, t.type_inv.packet i) }
@@ -56,7 +56,7 @@ loop-i-init c =
 pub take_at-answer-requires : goal.take_at-answer-requires
 take_at-answer-requires c =
     let l = c.loop-i in
-    (l.invariant.right, taking_fits l.invariant c.loop-i-test.true)
+    (l.invariant.right, taking_fits (underway l.invariant) c.loop-i-test.true)
 
 pub offset_bounds-r-i : goal.offset_bounds-r-i
 offset_bounds-r-i c = omega (arith, low (goal.at.offset_bounds-r-i c).After-take_at-answer)
@@ -74,7 +74,7 @@ returns-then-answer-ne0 c =
     ap (λ (out : List ℕ). told (record { refusal = c.take_at-answer.result.refusal; accepted = l.i; answers = set l.r.answers l.i c.take_at-answer.result }) c.take_at-answer.new.words c.take_at-answer.new.store out)
     (out_is (goal.at.returns-then-answer-ne0 c).After-take_at-answer c.take_at-answer.new.output)
     ∙ (λ j. told (record { refusal = (e j).answer.refusal; accepted = l.i; answers = set l.r.answers l.i (e j).answer }) (e j).words (e j).store (take l.used l.output ++ (e j).output))
-    ∙ stops_told l.invariant (more (goal.at.returns-then-answer-ne0 c).After-take_at-answer) (λ z. c.if-answer-ne0.true (ap (λ (y : Left). y.answer.refusal) e ∙ z))
+    ∙ stops_told (underway l.invariant) (more (goal.at.returns-then-answer-ne0 c).After-take_at-answer) (λ z. c.if-answer-ne0.true (ap (λ (y : Left). y.answer.refusal) e ∙ z))
 
 pub overflow_add-used : goal.overflow_add-used
 overflow_add-used c =
@@ -83,18 +83,18 @@ overflow_add-used c =
     omega (
       arith,
       ap (λ (y : Left). y.answer.octets) (x_is (goal.at.overflow_add-used c).After-take_at-answer),
-      fit l.invariant (more (goal.at.overflow_add-used c).After-take_at-answer) (octets (goal.at.overflow_add-used c).After-take_at-answer) (taken (goal.at.overflow_add-used c).After-take_at-answer accepted),
+      fit (underway l.invariant) (more (goal.at.overflow_add-used c).After-take_at-answer) (octets (goal.at.overflow_add-used c).After-take_at-answer) (taken (goal.at.overflow_add-used c).After-take_at-answer accepted),
       length-drop l.used l.output,
       l.invariant.room,
       l.invariant.wide,
     )
 
 pub size_at-at-requires : goal.size_at-at-requires
-size_at-at-requires c = omega (arith, taking_fits c.loop-i.invariant (more (goal.at.size_at-at-requires c).After-take_at-answer))
+size_at-at-requires c = omega (arith, taking_fits (underway c.loop-i.invariant) (more (goal.at.size_at-at-requires c).After-take_at-answer))
 
 pub overflow_add-at : goal.overflow_add-at
 overflow_add-at c =
-    omega (arith, c.size_at-at.ensures.0, taking_fits c.loop-i.invariant (more (goal.at.overflow_add-at c).After-take_at-answer))
+    omega (arith, c.size_at-at.ensures.0, taking_fits (underway c.loop-i.invariant) (more (goal.at.overflow_add-at c).After-take_at-answer))
 
 pub loop-i-preserved : goal.loop-i-preserved
 loop-i-preserved c =
@@ -105,7 +105,7 @@ loop-i-preserved c =
     let size = c.size_at-at.ensures.0 in
     let same : length (x (goal.at.loop-i-preserved c).After-take_at-answer).output ≡ length (drop l.used l.output) =
     sym (ap (λ (y : Left). length y.output) e) ∙ c.output-1.given.0 ∙ ap length (from_here l.output l.used) in
-    let next = taking_next l.invariant (more (goal.at.loop-i-preserved c).After-take_at-answer) (octets (goal.at.loop-i-preserved c).After-take_at-answer) (taken (goal.at.loop-i-preserved c).After-take_at-answer accepted) same (subst (λ (y : Left). Words32 y.words) e c.words_fit.ensures) refl in
+    let next = taking_next (underway l.invariant) (more (goal.at.loop-i-preserved c).After-take_at-answer) (octets (goal.at.loop-i-preserved c).After-take_at-answer) (taken (goal.at.loop-i-preserved c).After-take_at-answer accepted) same (subst (λ (y : Left). Words32 y.words) e c.words_fit.ensures) refl in
     let there : (y : Left) (out : List ℕ) (k : ℕ) → Type 0 = λ (y : Left) (out : List ℕ) (k : ℕ). Taking s.packet.now s.n s.words.now s.store.now s.output.now y.words y.store out
     (record { refusal = l.r.refusal; accepted = l.r.accepted; answers = set l.r.answers l.i y.answer }) (l.at + k) (l.used + y.answer.octets) (l.i + 1) in
     let y = left c.take_at-answer.result c.take_at-answer.new.words c.take_at-answer.new.store c.take_at-answer.new.output in
@@ -114,7 +114,7 @@ loop-i-preserved c =
     (subst (λ (q : Left). there q (take l.used l.output ++ q.output) (size_of (drop l.at s.packet.now))) (sym e) next))
 
 pub overflow_cast-r-2 : goal.overflow_cast-r-2
-overflow_cast-r-2 c = omega (arith, taking_few c.loop-i.invariant)
+overflow_cast-r-2 c = omega (arith, taking_few (underway c.loop-i.invariant))
 
 pub returns : goal.returns
-returns c = ends_told c.loop-i.invariant c.loop-i-test.false
+returns c = ends_told (underway c.loop-i.invariant) c.loop-i-test.false
